@@ -1,0 +1,4 @@
+-- Laws that other crates cite.
+pub mod Table
+pub mod Loop
+pub mod All
