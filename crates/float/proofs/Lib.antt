@@ -2,3 +2,5 @@
 pub mod Table
 pub mod Loop
 pub mod All
+pub mod Order
+pub mod Product
