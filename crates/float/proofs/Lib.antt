@@ -3,4 +3,6 @@ pub mod Table
 pub mod Loop
 pub mod All
 pub mod Order
+pub mod Value
 pub mod Product
+pub mod Rounded

@@ -5,3 +5,4 @@ pub mod Refusal
 pub mod Finite
 pub mod Single
 pub mod Double
+pub mod Narrow
