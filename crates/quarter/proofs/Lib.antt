@@ -1,0 +1,4 @@
+pub mod Each
+pub mod Fall
+pub mod Doubling
+pub mod Neighbour
