@@ -1,0 +1,6 @@
+pub mod Each
+pub mod Rows
+pub mod Lookup
+pub mod Fall
+pub mod Doubling
+pub mod Neighbour
