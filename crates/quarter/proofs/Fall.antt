@@ -33,7 +33,7 @@ pub falls : Falls
 falls = record { first = first; last = last; falls = fall }
 
 -- what falls at each step up to n falls from each place to each later one
-lowers : (q : ℕ → ℕ) (n : ℕ) → ((i : ℕ) → i < n → q (suc i) < q i) → (i k : ℕ) → i + k ≤ n → q (i + k) ≤ q i
+pub lowers : (q : ℕ → ℕ) (n : ℕ) → ((i : ℕ) → i < n → q (suc i) < q i) → (i k : ℕ) → i + k ≤ n → q (i + k) ≤ q i
 lowers q n f i zero h = rw add-zero (le-refl (q i))
 lowers q n f i (suc k) h =
     rw add-suc (le-trans (le-of-lt (f (i + k) (omega arith))) (lowers q n f i k (omega arith)))

@@ -1,0 +1,2 @@
+-- Laws of the cosine rule that callers cite.
+pub mod Blend
