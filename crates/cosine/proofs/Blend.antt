@@ -12,7 +12,7 @@ use Rattle.cosine.specs.Cosine.{blend, low}
 
 -- ---- a sum of two products, positive or negative
 plus : (a b c d : ℕ) → pos a *ℤ pos b +ℤ pos c *ℤ pos d ≡ pos (a * b + c * d)
-plus a b c d = rw (pos-*ℤ-pos a b, pos-*ℤ-pos c d) (pos-+ℤ-pos (a * b) (c * d))
+plus a b c d = pos-+ℤ-pos (a * b) (c * d)
 
 minus-mul : (a b : ℕ) → negℤ (pos a) *ℤ pos b ≡ negℤ (pos (a * b))
 minus-mul zero b = zero-*ℤ (pos b) ∙ sym (ap (λ (n : ℕ). negℤ (pos n)) (zero-times b))
@@ -36,7 +36,7 @@ at-low i s = quarter i * (4096 - s) + quarter (suc i) * s
 low-at : (i s : ℕ) → i * 4096 + s ≤ 2048 * 4096 → at i s ≡ pos (at-low i s)
 unfolding at at-low
 low-at i zero h =
-    rw (entry-low i (omega arith), *ℤ-zero (entry (suc i)), mul-zero (quarter (suc i)), pos-*ℤ-pos (quarter i) 4096, +ℤ-idr (pos (quarter i * 4096)), add-zero (quarter i * 4096))
+    rw (entry-low i (omega arith), *ℤ-zero (entry (suc i)), mul-zero (quarter (suc i))) (pos-+ℤ-pos (quarter i * 4096) 0)
 low-at i (suc s) h =
     rw (entry-low i (omega arith), entry-low (suc i) (omega arith)) (plus (quarter i) (4096 - suc s) (quarter (suc i)) (suc s))
 
@@ -120,7 +120,7 @@ low-falls k h = split (suc k % 4096) refl
     over e = (omega arith, omega arith)
 
     split : (r : ℕ) → suc k % 4096 ≡ r → at-low (suc k / 4096) (suc k % 4096) < at-low (k / 4096) (k % 4096)
-    split zero e = rw (e, over e .0, at-carry (k / 4096), ← over e .1) step
+    split zero e = rw (e, over e .0, at-carry (k / 4096)) (rw (over e .1) at step)
     split (suc r) e = rw (next r e .0, next r e .1) step
 
 pub low-monotone : (i j : ℕ) → i ≤ j → j ≤ 2 ^ 23 → low j ≤ low i

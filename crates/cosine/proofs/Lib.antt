@@ -1,2 +1,6 @@
 -- Laws of the cosine rule that callers cite.
 pub mod Blend
+pub mod Exact
+pub mod Monotone
+pub mod Least
+mod Halving

@@ -17,9 +17,13 @@ unfoldable pub above : ℕ → (ℕ → Bool) → ℕ → ℕ
 above zero test lo = suc lo
 above (suc d) test lo = above d test (cond (test (lo + 2 ^ d)) lo (lo + 2 ^ d))
 
+-- the cosine of step k is ≤ c
+abbrev pub reached : Float → ℕ → Bool
+reached c k = le (cosine k) c
+
 -- the least k in 0..2^24 whose unnarrowed cosine is ≤ c
 unfoldable pub step : Float → ℕ
-step c = cond (le (cosine 0) c) 0 (above 24 (λ k. le (cosine k) c) 0)
+step c = cond (reached c 0) 0 (above 24 (reached c) 0)
 
 -- ---- of a frequency
 
