@@ -1,1 +1,2 @@
+pub mod HalfEven
 pub mod Narrow
