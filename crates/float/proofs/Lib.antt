@@ -6,3 +6,8 @@ pub mod Order
 pub mod Value
 pub mod Product
 pub mod Rounded
+mod HalfEven
+mod Units
+pub mod Patterns
+mod Narrowing
+mod Signs

@@ -85,7 +85,7 @@ rounded-same f (inf s) h = refl
 rounded-same f (fin s m e) h = value-unique f (round f s (m * up e) (down e)) (fin s m e) s (m * up e) (down e) (down-pos e) (round-fits f s (m * up e) (down e)) h (exact-fits f s m e h) (refl, refl)
 
 -- ---- signs are kept apart
-odd-neg : (d : ℕ) (s : Bool) (q k l : ℕ) → odd d (not s) q k l ≡ neg (odd d s q k l)
+pub odd-neg : (d : ℕ) (s : Bool) (q k l : ℕ) → odd d (not s) q k l ≡ neg (odd d s q k l)
 unfolding odd neg
 odd-neg d s zero k l = refl
 odd-neg d s (suc q) k l = refl

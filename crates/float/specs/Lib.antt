@@ -5,4 +5,5 @@ pub mod Refusal
 pub mod Finite
 pub mod Single
 pub mod Double
+pub mod HalfEven
 pub mod Narrow
