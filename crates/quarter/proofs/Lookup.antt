@@ -1,14 +1,15 @@
 -- The flat table that the code holds and the look-up by rows that the definitions use are the same numbers.
 -- Assumes nothing.
 use mathlib.Core.Path.{_≡_, refl}
+use mathlib.Core.List.{flatten}
 use Prim.Native.Nat.{ℕ, _<_}
 use lib.Dec.{T, lit<}
 use lib.ListN.{getD, length}
-use Rattle.quarter.specs.Quarter.{flat, quarter, quarterRows, quarterTable}
+use Rattle.quarter.specs.Quarter.{quarter, quarterRows, quarterTable}
 use Rattle.quarter.proofs.Rows.{wide, row-at}
 
 pub table-length : length quarterTable ≡ 2049
-unfolding quarterTable quarterRows flat
+unfolding quarterTable quarterRows flatten
 table-length = refl
 
 rows-wide : T (wide 32 quarterRows)

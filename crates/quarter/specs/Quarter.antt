@@ -2,16 +2,11 @@
 -- Document 01, "The cosine rule, at the bottom". The numbers stand in rows of 32, because a look-up in a list walks to its place.
 -- Assumes nothing.
 use mathlib.Core.Bool.{cond}
-use mathlib.Core.List.{List, [], _∷_, _++_}
+use mathlib.Core.List.{List, [], _∷_, flatten}
 use Prim.Native.Nat.{ℕ, _-_, _/_, _%_}
 use lib.Dec.{leb}
 use lib.IntN.{ℤ, pos, negℤ}
 use lib.ListN.{getD}
-
--- the rows one after the other
-unfoldable pub flat : List (List ℕ) → List ℕ
-flat [] = []
-flat (r ∷ rs) = r ++ flat rs
 
 unfoldable pub quarterRows : List (List ℕ)
 quarterRows =
@@ -82,8 +77,9 @@ quarterRows =
     (0 ∷ []) ∷
     []
 
+-- the rows one after the other
 unfoldable pub quarterTable : List ℕ
-quarterTable = flat quarterRows
+quarterTable = flatten quarterRows
 
 unfoldable pub quarter : ℕ → ℕ
 quarter i = getD (getD quarterRows (i / 32) []) (i % 32) 0

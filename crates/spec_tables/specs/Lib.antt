@@ -1,0 +1,5 @@
+pub mod Band
+pub mod Codebook
+pub mod Rows
+pub mod Tables
+pub mod Window
