@@ -12,3 +12,4 @@ pub mod Patterns
 mod Narrowing
 mod Signs
 pub mod Blocks
+pub mod Parts

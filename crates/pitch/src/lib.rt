@@ -2,16 +2,19 @@
 // Each sum keeps the Rust's order; eight lags' sums run side by side.
 ghost use mathlib.Core.Path.{_≡_};
 ghost use Prim.Native.Nat.{suc, _+_, _-_, _≤_, _<_, min, max};
+ghost use lib.Dec.{T};
 ghost use lib.Ieee.{nan};
+ghost use lib.Ieee.Scale.{finite};
 ghost use lib.ListN.{length, getD, take};
 ghost use Rattle.float.specs.Table.{table};
 ghost use Rattle.float.specs.Loop.{over};
 ghost use Rattle.float.specs.Double.{_⊠_};
+ghost use Rattle.float.specs.Refusal.{all};
 ghost use Rattle.pitch.specs.Lags.{cross, delayed};
 ghost use Rattle.pitch.specs.Search.{challenged, offered, winner, preferred};
 ghost use Rattle.pitch.specs.Gate.{atMostOne, passes};
 ghost use Rattle.pitch.specs.Pitch.{refusedPitch, openLoopPitch};
-ghost use Rattle.pitch.specs.Shaping.{shapingOff, held, factor, settings, refusedShaping, harmonicNoiseShaping};
+ghost use Rattle.pitch.specs.Shaping.{shapingOff, held, factor, settled, settings, refusedShaping, harmonicNoiseShaping};
 
 // The open-loop lag of one half of the frame.
 pub struct OpenLoop {
@@ -54,31 +57,28 @@ struct EightLags {
 
 // ---- sums
 
-// The samples as doubles, once for all the sums.
-fn widened(f: &[f32]) -> [f64; 265]
-    requires { ⌜ length (now f) ≤ 265 ⌝ }
-    ensures { λ r. ⌜ take (length (now (f .entry))) r ≡ now (f .entry) ⌝ }
+// The samples, which are finite, as doubles, once for all the sums.
+fn widen(out: &mut [f64; 265], f: &[f32])
+    requires { ⌜ length (now out) ≡ 265 ⌝ ∗ ⌜ length (now f) ≤ 265 ⌝ ∗ ⌜ T (all finite (now f)) ⌝ }
+    ensures { λ _. ⌜ take (length (now (f .entry))) (now (out .exit)) ≡ now (f .entry) ⌝ }
 {
-    let mut out = [0.0f64; 265];
     let mut i = 0;
     while i < f.len() {
-        out[i] = std::num::f32_to_f64_with_nan(f[i]);
+        out[i] = f[i] as f64;
         i += 1;
     }
-    out
 }
 
 // Their squares: the square of a single is exact in a double, so every lag's sum can share it.
-fn squared(x: &[f64; 265]) -> [f64; 265]
-    ensures { λ r. ⌜ r ≡ table 265 (λ i. getD (now (x .entry)) i nan ⊠ getD (now (x .entry)) i nan) ⌝ }
+fn square(out: &mut [f64; 265], x: &[f64; 265])
+    requires { ⌜ length (now out) ≡ 265 ⌝ }
+    ensures { λ _. ⌜ now (out .exit) ≡ table 265 (λ i. getD (now (x .entry)) i nan ⊠ getD (now (x .entry)) i nan) ⌝ }
 {
-    let mut out = [0.0f64; 265];
     let mut i = 0;
     while i < 265 {
         out[i] = x[i] * x[i];
         i += 1;
     }
-    out
 }
 
 // Both sums of the lags lag, .., lag + 7 over count samples from o on.
@@ -246,8 +246,10 @@ pub fn open_loop_pitch(wbuf: &[f32], half: usize) -> OpenLoop
     if !fine {
         return refused_pitch(5);
     }
-    let x = widened(&wbuf[o - 145..end]);
-    let squares = squared(&x);
+    let mut x = [0.0f64; 265];
+    widen(&mut x, &wbuf[o - 145..end]);
+    let mut squares = [0.0f64; 265];
+    square(&mut squares, &x);
     let best = search_in(&x, &squares, 142);
     OpenLoop {
         status: 0,
@@ -290,6 +292,26 @@ fn beta_of(gain: f64) -> f32
     0.3125 * float::narrow(hold(gain))
 }
 
+// No lag counted, no energy or a failed gate: off.
+fn settle(best: Best, e: f64, gain: f64) -> HnsParams
+    ensures { λ r. ⌜ r ≡ settled best e gain ⌝ }
+{
+    if !best.found {
+        return HnsParams::off();
+    }
+    if e <= 0.0 {
+        return HnsParams::off();
+    }
+    let ratio = best.ratio;
+    let passed = gate(ratio, e);
+    if !passed {
+        return HnsParams::off();
+    }
+    let lag = best.lag;
+    let beta = beta_of(gain);
+    HnsParams { lag, beta }
+}
+
 fn refused_shaping(status: u32) -> Shaping
     ensures { λ r. ⌜ r ≡ refusedShaping status ⌝ }
 {
@@ -309,6 +331,7 @@ fn shaping_in(x: &[f64; 265], squares: &[f64; 265], limit: u32, l: u32) -> HnsPa
     ensures { λ r. ⌜ r ≡ settings limit (now (x .entry)) (limit + 3) l ⌝ }
 {
     let o = limit as usize + 3;
+    let e = energy(squares, o, 60);
     let first = l - 4;
     let sums = eight_lags(x, squares, o, 60, first as usize);
     let none = Best {
@@ -320,19 +343,9 @@ fn shaping_in(x: &[f64; 265], squares: &[f64; 265], limit: u32, l: u32) -> HnsPa
     if !best.found {
         return HnsParams::off();
     }
-    let e = energy(squares, o, 60);
-    if e <= 0.0 {
-        return HnsParams::off();
-    }
-    let ratio = best.ratio;
-    let passed = gate(ratio, e);
-    if !passed {
-        return HnsParams::off();
-    }
     let lag = best.lag;
     let i = (l + 3 - lag) as usize;
-    let beta = beta_of(sums.cross[i] / sums.power[i]);
-    HnsParams { lag, beta }
+    settle(best, e, sums.cross[i] / sums.power[i])
 }
 
 // The subframe of 60 samples at place, with 145 samples before it, around the open-loop lag.
@@ -360,8 +373,10 @@ pub fn harmonic_noise_shaping(wbuf: &[f32], place: usize, l_ol: u32) -> Shaping
     if !fine {
         return refused_shaping(5);
     }
-    let x = widened(part);
-    let squares = squared(&x);
+    let mut x = [0.0f64; 265];
+    widen(&mut x, part);
+    let mut squares = [0.0f64; 265];
+    square(&mut squares, &x);
     let params = shaping_in(&x, &squares, 142, l_ol);
     Shaping { status: 0, params }
 }
