@@ -9,14 +9,14 @@ use lib.ListN.{getD}
 use Rattle.float.specs.Table.{table}
 use Rattle.float.specs.Loop.{over}
 use Rattle.float.specs.Double.{_⧄_}
-use Rattle.pitch.specs.declared.Best.{Best}
+use Rattle.lags.specs.declared.Best.{Best}
 use Rattle.pitch.specs.declared.HnsParams.{HnsParams}
-use Rattle.pitch.specs.Lags.{cross, delayed, power, gain}
-use Rattle.pitch.specs.Search.{offered, nothing, winner, preferred, greater}
+use Rattle.lags.specs.Lags.{cross, delayed, power, gain}
+use Rattle.lags.specs.Search.{offered, nothing, winner, preferred, greater}
 use Rattle.pitch.specs.Shaping.{shapingOff, settled, shaped, settings}
-use Rattle.pitch.proofs.Turns.{squares, kept-power, own, block}
-use Rattle.pitch.proofs.Winner.{within, rules-agree, winner-outcome, outcome-below}
-use Rattle.pitch.proofs.Window.{Copy, winner-window, cross-window, power-window}
+use Rattle.lags.proofs.Turns.{squares, kept-power, own, block}
+use Rattle.lags.proofs.Winner.{within, rules-agree, winner-outcome, outcome-below}
+use Rattle.lags.proofs.Window.{Copy, winner-window, cross-window, power-window}
 
 -- ---- both ends
 pub unfound : (f : List Float) (o : ℕ) (s : Best) (r : HnsParams) → r ≡ shapingOff → s .found ≡ false → r ≡ shaped f o s

@@ -11,11 +11,11 @@ use Rattle.float.specs.Refusal.{first, answer}
 use Rattle.float.specs.Single.{_⊗_, single}
 use Rattle.float.specs.Double.{double}
 use Rattle.float.specs.Narrow.{narrow}
-use Rattle.pitch.specs.declared.Best.{Best}
+use Rattle.lags.specs.declared.Best.{Best}
 use Rattle.pitch.specs.declared.HnsParams.{HnsParams}
 use Rattle.pitch.specs.declared.Shaping.{Shaping}
-use Rattle.pitch.specs.Lags.{power, gain}
-use Rattle.pitch.specs.Search.{winner, greater}
+use Rattle.lags.specs.Lags.{power, gain}
+use Rattle.lags.specs.Search.{winner, greater}
 use Rattle.pitch.specs.Gate.{passes}
 
 -- lag 18 with factor 0

@@ -14,7 +14,7 @@ use Rattle.float.proofs.Parts.{passes}
 use Rattle.pitch.specs.declared.HnsParams.{HnsParams}
 use Rattle.pitch.specs.declared.Shaping.{Shaping}
 use Rattle.pitch.specs.Shaping.{settings, refusedShaping, harmonicNoiseShaping}
-use Rattle.pitch.proofs.Window.{Copy, copied}
+use Rattle.lags.proofs.Window.{Copy, copied}
 use Rattle.pitch.proofs.Settings.{settings-window}
 use Rattle.pitch.proofs.harmonic_noise_shaping.Statement.{statement}
 use Rattle.pitch.proofs.harmonic_noise_shaping.Tie as tie

@@ -13,11 +13,11 @@ use lib.Ieee.Scale.{finite}
 use lib.ListN.{length, take, drop}
 use Rattle.float.specs.Refusal.{all}
 use Rattle.float.proofs.Parts.{passes, all-part}
-use Rattle.pitch.specs.declared.Best.{Best}
+use Rattle.lags.specs.declared.Best.{Best}
 use Rattle.pitch.specs.declared.OpenLoop.{OpenLoop}
-use Rattle.pitch.specs.Search.{winner, preferred}
+use Rattle.lags.specs.Search.{winner, preferred}
 use Rattle.pitch.specs.Pitch.{refusedPitch, start, openLoopPitch}
-use Rattle.pitch.proofs.Window.{Copy, copied, winner-window}
+use Rattle.lags.proofs.Window.{Copy, copied, winner-window}
 use Rattle.pitch.proofs.open_loop_pitch.Statement.{statement}
 use Rattle.pitch.proofs.open_loop_pitch.Tie as tie
 

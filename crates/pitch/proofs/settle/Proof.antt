@@ -5,7 +5,7 @@ use mathlib.Core.Path.{_≡_, refl, sym, ap, _∙_}
 use mathlib.Core.Bool.{true, false}
 use lib.Ieee.{Float, le, round, ofBits}
 use Rattle.float.specs.Double.{double}
-use Rattle.pitch.specs.declared.Best.{Best}
+use Rattle.lags.specs.declared.Best.{Best}
 use Rattle.pitch.specs.declared.HnsParams.{HnsParams}
 use Rattle.pitch.specs.Gate.{passes}
 use Rattle.pitch.specs.Shaping.{shapingOff, factor, settled}

@@ -6,8 +6,8 @@ use mathlib.Core.Path.{_≡_, _∙_}
 use Prim.Native.Nat.{_-_}
 use lib.Ieee.{round, ofBits}
 use Rattle.float.specs.Double.{double}
-use Rattle.pitch.specs.Search.{nothing}
-use Rattle.pitch.proofs.Turns.{kept-power}
+use Rattle.lags.specs.Search.{nothing}
+use Rattle.lags.proofs.Turns.{kept-power}
 use Rattle.pitch.proofs.Settings.{unfound, found, shaping-winner, placed, gain-of, to-settings}
 use Rattle.pitch.proofs.shaping_in.Statement.{statement}
 use Rattle.pitch.proofs.shaping_in.Tie as tie

@@ -1,4 +1,4 @@
--- `pitch::widen` meets its contract: the first i places hold the first i samples. Assumes nothing.
+-- `lags::widen` meets its contract: the first i places hold the first i samples. Assumes nothing.
 use borrow.Author.Needs.{needs}
 use native.Mathlib.Omega.{arith}
 use native.Mathlib.Numerals.{add-one}
@@ -13,8 +13,8 @@ use lib.Ieee.Scale.{finite}
 use lib.ListN.{length, getD, take, set, length-set}
 use lib.Seq.{take-suc, take-suc-set, take-all}
 use Rattle.float.proofs.All.{all-at}
-use Rattle.pitch.proofs.widen.Statement.{statement}
-use Rattle.pitch.proofs.widen.Tie as tie
+use Rattle.lags.proofs.widen.Statement.{statement}
+use Rattle.lags.proofs.widen.Tie as tie
 
 record Copied (f : List Float) (i : ℕ) (out : List Float) : Type 0 where
   pub bound : i ≤ length f

@@ -1,4 +1,4 @@
--- `pitch::square` meets its contract: the first i places hold their squares. Assumes nothing.
+-- `lags::square` meets its contract: the first i places hold their squares. Assumes nothing.
 use borrow.Author.Needs.{needs}
 use mathlib.Core.Path.{refl}
 use Prim.Native.Nat.{_-_}
@@ -6,8 +6,8 @@ use lib.Ieee.{nan}
 use lib.ListN.{getD}
 use Rattle.float.specs.Double.{_⊠_}
 use Rattle.float.proofs.Table.{Filled, filled-none, filled-more, filled-all}
-use Rattle.pitch.proofs.square.Statement.{statement}
-use Rattle.pitch.proofs.square.Tie as tie
+use Rattle.lags.proofs.square.Statement.{statement}
+use Rattle.lags.proofs.square.Tie as tie
 
 abbrev Inv-loop : tie.InvT-loop
 Inv-loop out₀ x i₀ out i = Filled 265 (λ k. getD x k nan ⊠ getD x k nan) i out
