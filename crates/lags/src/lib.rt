@@ -11,6 +11,7 @@ ghost use Rattle.float.specs.Loop.{over};
 ghost use Rattle.float.specs.Double.{_⊠_};
 ghost use Rattle.float.specs.Refusal.{all};
 ghost use Rattle.lags.specs.Lags.{cross, delayed};
+ghost use Rattle.lags.specs.Four.{sampleMore};
 ghost use Rattle.lags.specs.Search.{challenged, offered, winner, preferred};
 
 // The winner so far among the lags searched.
@@ -18,6 +19,18 @@ pub struct Best {
     pub found: bool,
     pub ratio: f64,
     pub lag: u32,
+}
+
+// Both sums of four lags, the highest lag first.
+struct FourLags {
+    a0: f64,
+    a1: f64,
+    a2: f64,
+    a3: f64,
+    b0: f64,
+    b1: f64,
+    b2: f64,
+    b3: f64,
 }
 
 // The sums of eight lags, the highest lag first, as the samples that they read stand in memory.
@@ -52,6 +65,23 @@ pub fn square(out: &mut [f64; 265], x: &[f64; 265])
     }
 }
 
+// One sample more in each of the eight sums: it is f, and the delayed ones stand from k on.
+fn sample_more(s: FourLags, x: &[f64; 265], squares: &[f64; 265], f: f64, k: usize) -> FourLags
+    requires { ⌜ k + 4 ≤ 265 ⌝ }
+    ensures { λ r. ⌜ r ≡ sampleMore s (now (x .entry)) (now (squares .entry)) f k ⌝ }
+{
+    FourLags {
+        a0: s.a0 + f * x[k],
+        a1: s.a1 + f * x[k + 1],
+        a2: s.a2 + f * x[k + 2],
+        a3: s.a3 + f * x[k + 3],
+        b0: s.b0 + squares[k],
+        b1: s.b1 + squares[k + 1],
+        b2: s.b2 + squares[k + 2],
+        b3: s.b3 + squares[k + 3],
+    }
+}
+
 // Both sums of the lags lag, .., lag + 7 over count samples from o on.
 pub fn eight_lags(
     x: &[f64; 265],
@@ -63,48 +93,32 @@ pub fn eight_lags(
     requires { ⌜ lag + 7 ≤ o ⌝ ∗ ⌜ o + count ≤ 265 ⌝ }
     ensures { λ r. ⌜ (r .cross ≡ table 8 (λ i. cross (now (x .entry)) o count (lag + 7 - i))) × (r .power ≡ table 8 (λ i. delayed (now (squares .entry)) o count (lag + 7 - i))) ⌝ }
 {
-    let mut a0 = 0.0;
-    let mut a1 = 0.0;
-    let mut a2 = 0.0;
-    let mut a3 = 0.0;
-    let mut a4 = 0.0;
-    let mut a5 = 0.0;
-    let mut a6 = 0.0;
-    let mut a7 = 0.0;
-    let mut b0 = 0.0;
-    let mut b1 = 0.0;
-    let mut b2 = 0.0;
-    let mut b3 = 0.0;
-    let mut b4 = 0.0;
-    let mut b5 = 0.0;
-    let mut b6 = 0.0;
-    let mut b7 = 0.0;
+    let zeros = FourLags {
+        a0: 0.0,
+        a1: 0.0,
+        a2: 0.0,
+        a3: 0.0,
+        b0: 0.0,
+        b1: 0.0,
+        b2: 0.0,
+        b3: 0.0,
+    };
+    let mut s = zeros;
+    let mut t = zeros;
     let from = o - lag - 7;
     let mut n = 0;
     while n < count {
         let f = x[o + n];
         let k = from + n;
-        a0 += f * x[k];
-        a1 += f * x[k + 1];
-        a2 += f * x[k + 2];
-        a3 += f * x[k + 3];
-        a4 += f * x[k + 4];
-        a5 += f * x[k + 5];
-        a6 += f * x[k + 6];
-        a7 += f * x[k + 7];
-        b0 += squares[k];
-        b1 += squares[k + 1];
-        b2 += squares[k + 2];
-        b3 += squares[k + 3];
-        b4 += squares[k + 4];
-        b5 += squares[k + 5];
-        b6 += squares[k + 6];
-        b7 += squares[k + 7];
+        let s1 = sample_more(s, x, squares, f, k);
+        s = s1;
+        let t1 = sample_more(t, x, squares, f, k + 4);
+        t = t1;
         n += 1;
     }
     EightLags {
-        cross: [a0, a1, a2, a3, a4, a5, a6, a7],
-        power: [b0, b1, b2, b3, b4, b5, b6, b7],
+        cross: [s.a0, s.a1, s.a2, s.a3, t.a0, t.a1, t.a2, t.a3],
+        power: [s.b0, s.b1, s.b2, s.b3, t.b0, t.b1, t.b2, t.b3],
     }
 }
 
