@@ -6,6 +6,9 @@ pub mod Order
 pub mod Value
 pub mod Product
 pub mod Rounded
+pub mod Dyadic
+pub mod Truncate
+pub mod Bound
 mod HalfEven
 mod Units
 pub mod Patterns
