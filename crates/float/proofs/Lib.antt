@@ -1,7 +1,7 @@
 pub mod Value
 pub mod Rounded
-mod HalfEven
-mod Units
+pub mod HalfEven
+pub mod Units
 pub mod Patterns
 mod Narrowing
 mod Signs
