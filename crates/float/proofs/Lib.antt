@@ -9,8 +9,8 @@ pub mod Rounded
 pub mod Dyadic
 pub mod Truncate
 pub mod Bound
-mod HalfEven
-mod Units
+pub mod HalfEven
+pub mod Units
 pub mod Patterns
 mod Narrowing
 mod Signs
