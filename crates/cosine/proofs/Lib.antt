@@ -3,4 +3,5 @@ pub mod Blend
 pub mod Exact
 pub mod Monotone
 pub mod Least
+pub mod Whole
 mod Halving
