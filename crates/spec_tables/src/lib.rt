@@ -3,7 +3,7 @@
 ghost use mathlib.Core.Path.{_≡_};
 ghost use Prim.Native.Nat.{_+_, _*_, _≤_};
 ghost use lib.ListN.{length, take, drop};
-ghost use Rattle.spec_tables.specs.Band.{placeOf, firstRow};
+ghost use Rattle.spec_tables.specs.Band.{placeOf, firstRow, allBands};
 ghost use Rattle.spec_tables.specs.Codebook.{lspRows};
 ghost use Rattle.spec_tables.specs.Rows.{row, padded};
 ghost use Rattle.spec_tables.specs.Tables.{bandInfo, dcFreq, lagWindow, perceptualZero, perceptualPole};
@@ -116,6 +116,13 @@ pub struct BandPlace {
 
 impl LspBand {
     pub const ALL: [LspBand; 3] = [LspBand::Band0, LspBand::Band1, LspBand::Band2];
+
+    // The same as a value, with what it holds as its contract.
+    pub fn in_order() -> [LspBand; 3]
+        ensures { λ r. ⌜ r ≡ allBands ⌝ }
+    {
+        LspBand::ALL
+    }
 
     pub fn start_and_length(self) -> BandPlace
         ensures { λ r. ⌜ r ≡ placeOf self ⌝ }
