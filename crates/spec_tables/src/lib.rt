@@ -167,7 +167,7 @@ impl LspBand {
 }
 
 // The `width` numbers from place `at` on, zeros after them.
-pub fn row_at(rows: &[i16], at: usize, width: usize) -> [i16; 4]
+fn row_at(rows: &[i16], at: usize, width: usize) -> [i16; 4]
     requires { ⌜ (at + width ≤ length (now rows)) × (width ≤ 4) ⌝ }
     ensures { λ r. ⌜ r ≡ padded (take width (drop at (now (rows .entry)))) ⌝ }
 {
