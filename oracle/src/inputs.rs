@@ -207,7 +207,7 @@ pub fn draw(operation: &Operation, random: &mut Random, turn: u64) -> Vec<u32> {
 const PI: f64 = std::f64::consts::PI;
 
 /// The resting set, where the Rust's tables are at hand; otherwise an even spread.
-fn resting() -> [f32; 10] {
+pub fn resting() -> [f32; 10] {
     #[cfg(rust)]
     return crate::published::spec_lsp::lsp_dc_freq();
     #[cfg(not(rust))]
@@ -215,7 +215,7 @@ fn resting() -> [f32; 10] {
 }
 
 /// Ten frequencies that rise.
-fn ordered(random: &mut Random) -> [f32; 10] {
+pub fn ordered(random: &mut Random) -> [f32; 10] {
     let whole = random.once_in(3);
     let spread = *random.pick(&[0.0, 50.0, 400.0, 1500.0]);
     let mut set: [f64; 10] = if random.once_in(3) {
@@ -228,7 +228,7 @@ fn ordered(random: &mut Random) -> [f32; 10] {
 }
 
 /// A set that the line could have arrived at.
-fn decoded(random: &mut Random) -> [f32; 10] {
+pub fn decoded(random: &mut Random) -> [f32; 10] {
     #[cfg(rust)]
     {
         let mut set = resting();
@@ -242,12 +242,12 @@ fn decoded(random: &mut Random) -> [f32; 10] {
 }
 
 /// Ten cosines that fall.
-fn cosines(random: &mut Random) -> [f32; 10] {
+pub fn cosines(random: &mut Random) -> [f32; 10] {
     ordered(random).map(|f| (PI * f as f64 / 32_768.0).cos() as f32)
 }
 
 /// A stable filter of ten coefficients: five resonators.
-fn filter(random: &mut Random) -> [f32; 11] {
+pub fn filter(random: &mut Random) -> [f32; 11] {
     let mut a = [0.0f64; 11];
     a[0] = 1.0;
     let widest = *random.pick(&[0.5, 0.9, 0.99]);
@@ -262,13 +262,13 @@ fn filter(random: &mut Random) -> [f32; 11] {
 }
 
 /// Its weighting taps, near enough.
-fn taps(random: &mut Random) -> ([f32; 10], [f32; 10]) {
+pub fn taps(random: &mut Random) -> ([f32; 10], [f32; 10]) {
     let a = filter(random);
     (std::array::from_fn(|k| a[k + 1] * 0.9f32.powi(k as i32 + 1)), std::array::from_fn(|k| a[k + 1] * 0.5f32.powi(k as i32 + 1)))
 }
 
 /// Pulses at a pitch lag, and noise, through three resonators.
-fn speech(random: &mut Random, n: usize) -> Vec<f64> {
+pub fn speech(random: &mut Random, n: usize) -> Vec<f64> {
     let lag = 18 + random.below(125);
     let voiced = random.between(0.0, 1.0);
     let stages: Vec<(f64, f64)> = (0..3).map(|_| (random.between(0.5, 0.97), random.between(0.05, PI))).collect();
