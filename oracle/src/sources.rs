@@ -45,6 +45,9 @@ fn tables_in(text: &str) -> Result<Vec<Table>, String> {
         let Some((name, after)) = rest.split_once(':') else { continue };
         let Some((kind, value)) = after.split_once('=') else { continue };
         let (Some(kind), Some(value)) = (kind.trim().strip_prefix('['), value.trim_start().strip_prefix('[')) else { continue };
+        if !kind.trim_start().starts_with(['i', 'u', 'f']) {
+            continue; // an array of an enum, as LspBand::ALL
+        }
         let Some((list, _)) = value.split_once(']') else { continue };
         let name = name.trim().to_string();
         let numbers = numbers(list).map_err(|word| format!("{name}: {word} is no number"))?;
