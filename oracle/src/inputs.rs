@@ -38,12 +38,44 @@ fn limits() -> &'static [u32] {
         let mut list = Vec::new();
         // Infinity, NaNs quiet and signalling with and without a payload, the largest and the smallest.
         let patterns = [
-            0x7f80_0000, 0x7fc0_0000, 0x7f80_0001, 0x7fa0_0000, 0x7fbf_ffff, 0x7fc1_2345, 0x7fff_ffff, 0x7f7f_ffff,
-            0x7f7f_fffe, 0, 1, 2, 0x007f_ffff, 0x0080_0000, 0x0080_0001,
+            0x7f80_0000,
+            0x7fc0_0000,
+            0x7f80_0001,
+            0x7fa0_0000,
+            0x7fbf_ffff,
+            0x7fc1_2345,
+            0x7fff_ffff,
+            0x7f7f_ffff,
+            0x7f7f_fffe,
+            0,
+            1,
+            2,
+            0x007f_ffff,
+            0x0080_0000,
+            0x0080_0001,
         ];
         let values = [
-            1.0, 0.999, 0.5, 2.0, 3.0 / 1024.0, 1.0 / 512.0, 1.0 / 1024.0, 31.25, 62.5, 400.0, 16_384.0, 32_767.0,
-            32_768.0, 49_152.0, 65_536.0, 131_072.0, 16_777_216.0, 33_554_432.0, 1e-20, 1e19, 1.8446744e19,
+            1.0,
+            0.999,
+            0.5,
+            2.0,
+            3.0 / 1024.0,
+            1.0 / 512.0,
+            1.0 / 1024.0,
+            31.25,
+            62.5,
+            400.0,
+            16_384.0,
+            32_767.0,
+            32_768.0,
+            49_152.0,
+            65_536.0,
+            131_072.0,
+            16_777_216.0,
+            33_554_432.0,
+            1e-20,
+            1e19,
+            1.8446744e19,
         ];
         let near = values.map(f32::to_bits).into_iter().flat_map(|at| [at - 1, at, at + 1]);
         for pattern in patterns.into_iter().chain(near) {
@@ -55,9 +87,45 @@ fn limits() -> &'static [u32] {
 
 /// Machine words at and next to every bound, and such as would wrap or be cut to a small one.
 const WORD_LIMITS: [u64; 40] = [
-    0, 1, 2, 3, 4, 17, 18, 19, 59, 60, 61, 84, 85, 141, 142, 143, 144, 145, 146, 204, 205, 206, 265, 324, 325, 326, 385,
-    0x7fff_ffff, 0x8000_0000, 0xffff_ffff, 0x1_0000_0000, 0x1_0000_0001, 0x1_0000_0091, 0x7fff_ffff_ffff_ffff,
-    0x8000_0000_0000_0000, 0x8000_0000_0000_0001, 0xffff_ffff_ffff_ff00, 0xffff_ffff_ffff_ffc4, 0xffff_ffff_ffff_fffe,
+    0,
+    1,
+    2,
+    3,
+    4,
+    17,
+    18,
+    19,
+    59,
+    60,
+    61,
+    84,
+    85,
+    141,
+    142,
+    143,
+    144,
+    145,
+    146,
+    204,
+    205,
+    206,
+    265,
+    324,
+    325,
+    326,
+    385,
+    0x7fff_ffff,
+    0x8000_0000,
+    0xffff_ffff,
+    0x1_0000_0000,
+    0x1_0000_0001,
+    0x1_0000_0091,
+    0x7fff_ffff_ffff_ffff,
+    0x8000_0000_0000_0000,
+    0x8000_0000_0000_0001,
+    0xffff_ffff_ffff_ff00,
+    0xffff_ffff_ffff_ffc4,
+    0xffff_ffff_ffff_fffe,
     0xffff_ffff_ffff_ffff,
 ];
 
@@ -170,7 +238,15 @@ fn banded(random: &mut Random, low: u32, high: u32) -> u32 {
 /// Every single of a likely input replaced by random bits: any at all, or with exponents in one band.
 fn random_bits(operation: &Operation, random: &mut Random) -> Parts {
     let mut parts = (operation.realistic)(random);
-    let band = *random.pick(&[None, Some((0, 254)), Some((0, 142)), Some((100, 142)), Some((100, 126)), Some((120, 130)), Some((0, 3))]);
+    let band = *random.pick(&[
+        None,
+        Some((0, 254)),
+        Some((0, 142)),
+        Some((100, 142)),
+        Some((100, 126)),
+        Some((120, 130)),
+        Some((0, 3)),
+    ]);
     for (field, part) in operation.takes.iter().zip(&mut parts) {
         if is_single(field) {
             for word in part.iter_mut() {
@@ -196,7 +272,13 @@ pub fn draw(operation: &Operation, random: &mut Random, turn: u64) -> Vec<u32> {
             1 => random_bits(operation, random),
             2 => damaged(operation, random),
             3 => (operation.special)(random, turn / 5),
-            _ => if random.once_in(2) { (operation.realistic)(random) } else { random_bits(operation, random) },
+            _ => {
+                if random.once_in(2) {
+                    (operation.realistic)(random)
+                } else {
+                    random_bits(operation, random)
+                }
+            }
         }
     };
     joined(operation.takes, &parts)
@@ -264,7 +346,10 @@ pub fn filter(random: &mut Random) -> [f32; 11] {
 /// Its weighting taps, near enough.
 pub fn taps(random: &mut Random) -> ([f32; 10], [f32; 10]) {
     let a = filter(random);
-    (std::array::from_fn(|k| a[k + 1] * 0.9f32.powi(k as i32 + 1)), std::array::from_fn(|k| a[k + 1] * 0.5f32.powi(k as i32 + 1)))
+    (
+        std::array::from_fn(|k| a[k + 1] * 0.9f32.powi(k as i32 + 1)),
+        std::array::from_fn(|k| a[k + 1] * 0.5f32.powi(k as i32 + 1)),
+    )
 }
 
 /// Pulses at a pitch lag, and noise, through three resonators.
@@ -336,14 +421,26 @@ pub fn lpc_analysis(random: &mut Random) -> Parts {
 /// Windows whose prediction error all but vanishes: tones, steps, alternation, one sample.
 pub fn lpc_analysis_special(random: &mut Random, _: u64) -> Parts {
     let scale = 2f32.powi(random.below(200) as i32 - 140);
-    let pace = *random.pick(&[0.0, PI, PI / 2.0, PI / 3.0, 0.01, 1e-4, 3.14]);
+    let pace = *random.pick(&[0.0, PI, PI / 2.0, PI / 3.0, 0.01, 1e-4, 3.1]);
     let one = random.below(180);
     let shape = random.below(3);
     let window: Vec<f32> = (0..180)
         .map(|t| match shape {
             0 => ((pace * t as f64).cos() as f32) * scale,
-            1 => if t == one { scale } else { 0.0 },
-            _ => if t >= one { scale } else { -scale },
+            1 => {
+                if t == one {
+                    scale
+                } else {
+                    0.0
+                }
+            }
+            _ => {
+                if t >= one {
+                    scale
+                } else {
+                    -scale
+                }
+            }
         })
         .collect();
     vec![bits(&window)]
@@ -481,7 +578,12 @@ fn neighbours(random: &mut Random, band: crate::spec_tables::LspBand) -> (&'stat
 /// Moves a set off the midpoint of two rows of a band to where its weighted errors are about the same, but no longer
 /// mirror images of each other.
 #[cfg(rust)]
-fn equally_far(random: &mut Random, p: [f32; 10], band: crate::spec_tables::LspBand, rows: (&[i16], &[i16])) -> [f32; 10] {
+fn equally_far(
+    random: &mut Random,
+    p: [f32; 10],
+    band: crate::spec_tables::LspBand,
+    rows: (&[i16], &[i16]),
+) -> [f32; 10] {
     let (start, length) = band.start_and_length();
     let dc = resting().map(f64::from);
     let mut p = p.map(f64::from);
@@ -581,7 +683,13 @@ pub fn interpolate_lsp(random: &mut Random) -> Parts {
 
 /// Zeros of both signs against values that a choice above 2 may not copy.
 pub fn interpolate_lsp_special(random: &mut Random, _: u64) -> Parts {
-    let mut set = || -> Vec<u32> { (0..10).map(|_| *random.pick(&[0, 0x8000_0000, 1, 0x8000_0001, 0x3f80_0000, 0xbf80_0000, 0x7f7f_ffff, 0xff7f_ffff])).collect() };
+    let mut set = || -> Vec<u32> {
+        (0..10)
+            .map(|_| {
+                *random.pick(&[0, 0x8000_0000, 1, 0x8000_0001, 0x3f80_0000, 0xbf80_0000, 0x7f7f_ffff, 0xff7f_ffff])
+            })
+            .collect()
+    };
     let (prev, cur) = (set(), set());
     vec![word(*random.pick(&[0, 1, 2, 3, 4, 5, usize::MAX, 1 << 32])), prev, cur]
 }
@@ -620,7 +728,13 @@ pub fn weight_subframe(random: &mut Random) -> Parts {
 pub fn weight_subframe_special(random: &mut Random, _: u64) -> Parts {
     let (wz, wp) = taps(random);
     let growth = *random.pick(&[1.0, 3.0, 30.0, 1e4]);
-    vec![bits(&sparse(random, 60)), bits(&wz), bits(&wp.map(|w| w * growth)), memory::<10>(random), bits(&sparse(random, 10))]
+    vec![
+        bits(&sparse(random, 60)),
+        bits(&wz),
+        bits(&wp.map(|w| w * growth)),
+        memory::<10>(random),
+        bits(&sparse(random, 10)),
+    ]
 }
 
 pub fn open_loop_pitch(random: &mut Random) -> Parts {
@@ -709,7 +823,8 @@ fn at_the_gate(random: &mut Random, place: usize) -> Parts {
         // As much as fits, a little less at first, so that many such sums differ.
         let most = if n < place + 4 { random.between(0.1, 0.9) } else { 1.0 };
         let sample = (left * most).max(0.0).sqrt() as f32;
-        let sample = if (sample as f64).powi(2) > left { f32::from_bits(sample.to_bits().saturating_sub(1)) } else { sample };
+        let sample =
+            if (sample as f64).powi(2) > left { f32::from_bits(sample.to_bits().saturating_sub(1)) } else { sample };
         wbuf[n] = sample;
         left -= (sample as f64).powi(2);
     }
@@ -753,7 +868,13 @@ pub fn combined_impulse_response_special(random: &mut Random, turn: u64) -> Part
     let (aq, wz, wp, lag, beta) = combined(random, growth);
     if turn % 3 == 0 {
         let zeros = vec![0; 10];
-        return vec![bits(&std::array::from_fn::<f32, 11, _>(|i| if i == 0 { 1.0 } else { 0.0 })), zeros.clone(), zeros, lag, beta];
+        return vec![
+            bits(&std::array::from_fn::<f32, 11, _>(|i| if i == 0 { 1.0 } else { 0.0 })),
+            zeros.clone(),
+            zeros,
+            lag,
+            beta,
+        ];
     }
     vec![aq, wz, wp, lag, beta]
 }

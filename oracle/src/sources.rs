@@ -44,7 +44,9 @@ fn tables_in(text: &str) -> Result<Vec<Table>, String> {
         rest = &rest[at + 6..];
         let Some((name, after)) = rest.split_once(':') else { continue };
         let Some((kind, value)) = after.split_once('=') else { continue };
-        let (Some(kind), Some(value)) = (kind.trim().strip_prefix('['), value.trim_start().strip_prefix('[')) else { continue };
+        let (Some(kind), Some(value)) = (kind.trim().strip_prefix('['), value.trim_start().strip_prefix('[')) else {
+            continue;
+        };
         let Some((list, _)) = value.split_once(']') else { continue };
         let Some((element, length)) = kind.trim_end_matches([']', ' ']).split_once(';') else { continue };
         if !["i8", "i16", "i32", "i64", "u8", "u16", "u32", "u64", "usize"].contains(&element.trim()) {
