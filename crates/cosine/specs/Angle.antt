@@ -1,0 +1,15 @@
+-- Angle of a step, and step of an angle: a step is π / 2^24, and π is the Rust's single constant, 13176795 / 2^22.
+-- Document 01, B36 and B40. Assumes nothing.
+use mathlib.Core.Bool.{false}
+use Prim.Native.Nat.{ℕ, _*_, _/_, _^_}
+use lib.Ieee.{Float, nan, inf, fin, binary32, up, down, round}
+
+-- k × π / 2^24, rounded once to single
+unfoldable pub angle : ℕ → Float
+angle k = round binary32 false (k * 13176795) (2 ^ 22 * 2 ^ 24)
+
+-- the greatest whole number ≤ |angle| × 2^24 / π, in exact arithmetic
+unfoldable pub stepOfAngle : Float → ℕ
+stepOfAngle nan = 0
+stepOfAngle (inf s) = 0
+stepOfAngle (fin s m e) = m * up e * (2 ^ 24 * 2 ^ 22) / (down e * 13176795)

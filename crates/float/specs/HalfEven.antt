@@ -1,0 +1,7 @@
+-- A whole number divided by a power of two and rounded to the nearest whole number, a tie to the even one: how a double's digits become a single's.
+-- Document 01, A7. Assumes nothing.
+use Prim.Native.Nat.{ℕ, _*_, _/_, _%_, _^_, compare}
+use lib.Ieee.{nearest}
+
+unfoldable pub halfEven : ℕ → ℕ → ℕ
+halfEven d k = nearest (d / 2 ^ k) (compare (d % 2 ^ k * 2) (2 ^ k))

@@ -1,0 +1,9 @@
+-- The language in which every definition of the port is written. One notion a file.
+pub mod Table
+pub mod Loop
+pub mod Refusal
+pub mod Finite
+pub mod Single
+pub mod Double
+pub mod HalfEven
+pub mod Narrow

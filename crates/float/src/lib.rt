@@ -1,0 +1,94 @@
+// Tests of singles that the refusals stand on, and the one rounding that Rattle's casts leave out.
+ghost use mathlib.Core.Path.{_≡_};
+ghost use Prim.Native.Nat.{_^_, _≤_, _<_};
+ghost use lib.Ieee.{binary32, binary64, ofBits, toBits};
+ghost use lib.Ieee.Scale.{finite};
+ghost use Rattle.float.specs.Refusal.{all, any};
+ghost use Rattle.float.specs.Finite.{exceeds};
+ghost use Rattle.float.specs.HalfEven.{halfEven};
+ghost use Rattle.float.specs.Narrow.{narrow};
+
+// Neither infinite nor a NaN.
+pub fn is_finite(x: f32) -> bool
+    ensures { λ r. ⌜ r ≡ finite x ⌝ }
+{
+    let infinity = 1.0f32 / 0.0;
+    (-infinity < x) & (x < infinity)
+}
+
+// Every element is finite.
+pub fn all_finite(s: &[f32]) -> bool
+    ensures { λ r. ⌜ r ≡ all finite (now (s .entry)) ⌝ }
+{
+    let mut i = 0;
+    while i < s.len() {
+        if !is_finite(s[i]) {
+            return false;
+        }
+        i += 1;
+    }
+    true
+}
+
+// Above the bound, or below its negative.
+pub fn exceeds_bound(x: f32, bound: f32) -> bool
+    ensures { λ r. ⌜ r ≡ exceeds bound x ⌝ }
+{
+    (bound < x) | (x < -bound)
+}
+
+// Some element exceeds the bound in magnitude.
+pub fn any_exceeds(s: &[f32], bound: f32) -> bool
+    ensures { λ r. ⌜ r ≡ any (exceeds bound) (now (s .entry)) ⌝ }
+{
+    let mut i = 0;
+    while i < s.len() {
+        if exceeds_bound(s[i], bound) {
+            return true;
+        }
+        i += 1;
+    }
+    false
+}
+
+// d / 2^k to the nearest whole number, a tie to the even one.
+fn half_even(d: u64, k: u64) -> u64
+    requires { ⌜ (1 ≤ k) × (k < 64) × (d < 2 ^ 63) ⌝ }
+    ensures { λ r. ⌜ r ≡ halfEven d k ⌝ }
+{
+    (d + ((1 << (k - 1)) - 1) + (d >> k) % 2) >> k
+}
+
+// The pattern of the single nearest to a double with the pattern m and no sign.
+fn narrow_magnitude(m: u64) -> u64
+    requires { ⌜ m ≤ 0x7ff0_0000_0000_0000 ⌝ }
+    ensures { λ r. ⌜ (r ≡ toBits binary32 (narrow (ofBits binary64 m))) × (r ≤ 0x7f80_0000) ⌝ }
+{
+    // from 2^128 on: infinity
+    if m >= 0x47f0_0000_0000_0000 {
+        return 0x7f80_0000;
+    }
+    // from 2^-126 on: a normal single. Patterns rise with their values, so a carry goes into the
+    // exponent's field, and past the largest single to infinity
+    if m >= 0x3810_0000_0000_0000 {
+        return half_even(m - 0x3800_0000_0000_0000, 29);
+    }
+    // from 2^-150 on: units of the smallest single, 2^-149
+    if m >= 0x3690_0000_0000_0000 {
+        return half_even((1 << 52) + m % (1 << 52), 926 - (m >> 52));
+    }
+    0
+}
+
+// Double to single: to nearest, ties to even.
+pub fn narrow(x: f64) -> f32
+    ensures { λ r. ⌜ r ≡ narrow x ⌝ }
+{
+    if x != x {
+        return 0.0f32 / 0.0;
+    }
+    let bits = f64::to_bits(x);
+    let sign = bits >> 63;
+    let magnitude = narrow_magnitude(bits % (1 << 63));
+    f32::from_bits((sign * 0x8000_0000 + magnitude) as u32)
+}

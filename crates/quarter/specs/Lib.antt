@@ -1,0 +1,2 @@
+pub mod Quarter
+pub mod Rules
