@@ -1,61 +1,82 @@
--- The invariant of the loop over a subframe: after n samples both delay lines hold the memories of the definition's state, and the first n outputs stand.
--- Assumes nothing.
+-- The loop over a subframe: after n samples the delay lines hold the memories of the definition's state, and the line of outputs has the first n of
+-- them in the places of their samples. Assumes nothing.
 use mathlib.Core.Path.{_≡_, refl, sym, ap, _∙_}
-use mathlib.Core.List.{List, [], _∷_, _++_}
+use mathlib.Core.List.{List, [], _∷_, _++_, append-nil}
 use Prim.Native.Nat.{ℕ, zero, suc, _+_, _-_, _≤_, _<_, zero-le}
+use native.Mathlib.Nat.{add-comm}
 use native.Mathlib.Numerals.{add-one}
 use native.Mathlib.Omega.{arith}
-use lib.ListN.{length, take, set, length-set}
-use lib.Seq.{take-suc-set, take-all}
-use lib.Ieee.{Float}
+use lib.ListN.{length, drop, set, length-set, length-append, drop-of-length-le}
+use lib.Seq.{drop-cons, drop-set-add, getD-drop, getD-at, set-at, append-snoc}
+use lib.Ieee.{Float, nan}
 use Rattle.float.specs.Loop.{times, over}
 use Rattle.float.specs.Vector.{at}
 use Rattle.float.proofs.Loop.{went-more}
 use Rattle.weighting.specs.declared.Weighted.{Weighted}
 use Rattle.weighting.specs.Filter.{Filter, weighted, later, sample, filtered, done}
-use Rattle.weighting.specs.Line.{behind}
-use Rattle.weighting.proofs.Line.{behind-more}
+use Rattle.weighting.specs.Line.{behind, Line}
+use Rattle.weighting.proofs.Line.{behind-next, behind-more}
 
 -- one more turn of a loop
 pub over-more : {S : Type 0} (step : ℕ → S → S) (s : S) (n : ℕ) → over 0 (n + 1) step s ≡ step n (over 0 n step s)
 over-more step s n =
     sym (went-more 0 (n + 1) step s n (over 0 n step s) (step n (over 0 n step s)) (omega arith) refl (record { from = zero-le; bound = omega arith; state = refl }) .state)
 
-pub record Running (x wz wp mx mf : List Float) (n : ℕ) (xs fs out : List Float) : Type 0 where
+-- a line's own memory
+pub own-line : {m x line : List Float} → Line m x line → Line (behind 0 line) x line
+own-line l = record { long = l .long; before = refl; after = l .after }
+
+-- after n samples the line of inputs holds their memory
+pub inputs-behind : (x wz wp mx mf xs : List Float) → Line mx x xs → (n : ℕ) → behind n xs ≡ filtered x wz wp mx mf n .inputs
+unfolding times sample
+inputs-behind x wz wp mx mf xs l zero = l .before
+inputs-behind x wz wp mx mf xs l (suc n) =
+    let e : at xs (n + 10) ≡ at x n = ap (at xs) (add-comm n 10) ∙ sym (getD-drop 10 xs n nan) ∙ ap (λ (y : List Float). at y n) (l .after) in
+    rw (← add-one n, behind-next n xs, e, inputs-behind x wz wp mx mf xs l n, over-more (sample wz wp x) (record { inputs = mx; outputs = mf; out = [] }) n)
+
+-- the line of outputs: those of n samples, and the samples left
+pub record Running (x wz wp mx mf : List Float) (n : ℕ) (fs : List Float) : Type 0 where
   pub bound : n ≤ 60
-  pub long-xs : length xs ≡ 70
-  pub long-fs : length fs ≡ 70
-  pub long-out : length out ≡ 60
-  pub inputs : behind n xs ≡ filtered x wz wp mx mf n .inputs
+  pub long : length fs ≡ 70
   pub outputs : behind n fs ≡ filtered x wz wp mx mf n .outputs
-  pub answered : take n out ≡ filtered x wz wp mx mf n .out
+  pub count : length (filtered x wz wp mx mf n .out) ≡ n
+  pub rest : drop 10 fs ≡ filtered x wz wp mx mf n .out ++ drop n x
 
-module _ (x wz wp mx mf : List Float) where
-  pub running-none : (xs fs out : List Float) → length xs ≡ 70 → length fs ≡ 70 → length out ≡ 60 → behind 0 xs ≡ mx → behind 0 fs ≡ mf → Running x wz wp mx mf 0 xs fs out
-  unfolding times
-  running-none xs fs out a b c p q = record { bound = zero-le; long-xs = a; long-fs = b; long-out = c; inputs = p; outputs = q; answered = refl }
+pub running-none : (x wz wp mx mf fs : List Float) → Line mf x fs → Running x wz wp mx mf 0 fs
+unfolding times
+running-none x wz wp mx mf fs l = record { bound = zero-le; long = l .long; outputs = l .before; count = refl; rest = l .after }
 
-  pub running-more : (n : ℕ) (xs fs out : List Float) (v f : Float) → n < 60 → v ≡ at x n → f ≡ weighted wz wp v (behind n xs) (behind n fs) → Running x wz wp mx mf n xs fs out → Running x wz wp mx mf (n + 1) (set xs (n + 10) v) (set fs (n + 10) f) (set out n f)
+module _ (x wz wp mx mf : List Float) (n : ℕ) (fs : List Float) (long-x : length x ≡ 60) (h : n < 60) (r : Running x wz wp mx mf n fs) where
+  -- the sample that is next in the line
+  pub running-next : at fs (n + 10) ≡ at x n
+  running-next =
+      ap (at fs) (add-comm n 10) ∙ sym (getD-drop 10 fs n nan) ∙ ap (λ (y : List Float). at y n) (r .rest ∙ ap (λ (y : List Float). filtered x wz wp mx mf n .out ++ y) (drop-cons x n nan (omega arith)))
+      ∙ getD-at (filtered x wz wp mx mf n .out) (at x n) (drop (suc n) x) nan n (r .count)
+
+  pub running-more : (xs : List Float) (v f : Float) → Line mx x xs → v ≡ at fs (n + 10) → f ≡ weighted wz wp v (behind n xs) (behind n fs) → Running x wz wp mx mf (n + 1) (set fs (n + 10) f)
   unfolding sample
-  running-more n xs fs out v f h e g r =
+  running-more xs v f l e g =
       let s = filtered x wz wp mx mf n in
-      let k : f ≡ weighted wz wp (at x n) (s .inputs) (s .outputs) = g ∙ rw (e, r .inputs, r .outputs) in
+      let k : f ≡ weighted wz wp (at x n) (s .inputs) (s .outputs) = g ∙ rw (e, running-next, inputs-behind x wz wp mx mf xs l n, r .outputs) in
+      let m : filtered x wz wp mx mf (n + 1) ≡ sample wz wp x n s = over-more (sample wz wp x) (record { inputs = mx; outputs = mf; out = [] }) n in
+      let a : n + 10 ≡ 10 + n = omega arith in
+      let w : n < length x = omega arith in
       record {
         bound = omega arith;
-        long-xs = length-set xs (n + 10) v ∙ r .long-xs;
-        long-fs = length-set fs (n + 10) f ∙ r .long-fs;
-        long-out = length-set out n f ∙ r .long-out;
-        inputs = behind-more n xs v (omega (arith, r .long-xs)) ∙ rw (e, r .inputs, over-more (sample wz wp x) _ n);
-        outputs = behind-more n fs f (omega (arith, r .long-fs)) ∙ rw (k, r .outputs, over-more (sample wz wp x) _ n);
-        answered = rw (over-more (sample wz wp x) _ n, add-one, take-suc-set out n f (omega (arith, r .long-out)), r .answered, k);
+        long = length-set fs (n + 10) f ∙ r .long;
+        outputs = behind-more n fs f (omega (arith, r .long)) ∙ rw (m, k, r .outputs);
+        count = rw m (length-append (s .out) _ ∙ rw (r .count));
+        rest = rw (m, a, drop-set-add 10 fs n f, r .rest, drop-cons x n nan w, add-one, ← k) (set-at (s .out) (at x n) (drop (suc n) x) f n (r .count) ∙ sym (append-snoc (s .out) f (drop (suc n) x)));
       }
 
--- sixty samples from lines that start with the memories given
-pub running-all : (x wz wp mx mf xs₀ fs₀ : List Float) (n : ℕ) (xs fs out rx rf : List Float) → behind 0 xs₀ ≡ mx → behind 0 fs₀ ≡ mf → 60 ≤ n → rx ≡ behind 60 xs → rf ≡ behind 60 fs → Running x wz wp (behind 0 xs₀) (behind 0 fs₀) n xs fs out → _≡_ {A = Weighted} (record { status = 0; out = out; «x_mem» = rx; «f_mem» = rf }) (done (filtered x wz wp mx mf 60))
-running-all x wz wp mx mf xs₀ fs₀ n xs fs out rx rf j k h p q r =
+-- all sixty, from lines that start with the memories given
+pub running-all : (x wz wp mx mf xs fs₀ : List Float) (n : ℕ) (fs out rx rf : List Float) → length x ≡ 60 → Line mx x xs → Line mf x fs₀ → 60 ≤ n → out ≡ drop 10 fs → rx ≡ behind 60 xs → rf ≡ behind 60 fs → Running x wz wp (behind 0 xs) (behind 0 fs₀) n fs → _≡_ {A = Weighted} (record { status = 0; out = out; «x_mem» = rx; «f_mem» = rf }) (done (filtered x wz wp mx mf 60))
+running-all x wz wp mx mf xs fs₀ n fs out rx rf z l o h d p q r =
     let e : n ≡ 60 = omega (arith, r .bound) in
-    let s = filtered x wz wp (behind 0 xs₀) (behind 0 fs₀) 60 in
-    let i : rx ≡ s .inputs = p ∙ rw e at (r .inputs) in
-    let o : rf ≡ s .outputs = q ∙ rw e at (r .outputs) in
-    let a : out ≡ s .out = sym (take-all 60 out (omega (arith, r .long-out))) ∙ rw e at (r .answered) in
-    rw (i, o, a, j, k)
+    let s = filtered x wz wp (behind 0 xs) (behind 0 fs₀) 60 in
+    let i : rx ≡ s .inputs = p ∙ inputs-behind x wz wp (behind 0 xs) (behind 0 fs₀) xs (own-line l) 60 in
+    let f : rf ≡ s .outputs = q ∙ rw e at (r .outputs) in
+    let w : drop 10 fs ≡ s .out ++ drop 60 x = rw e at (r .rest) in
+    let b : drop 60 x ≡ [] = drop-of-length-le x {i = 60} (omega arith) in
+    let a : out ≡ s .out = d ∙ w ∙ rw (b, append-nil) in
+    rw (i, f, a, l .before, o .before)

@@ -1,11 +1,11 @@
 // The formant perceptual weighting filter (§2.8): its taps, and one subframe through it.
 ghost use mathlib.Core.Path.{_≡_};
 ghost use Prim.Native.Nat.{_<_};
-ghost use lib.ListN.{length};
+ghost use lib.ListN.{length, drop};
 ghost use Rattle.float.specs.Single.{_⊕_, _⊖_, _⊗_};
 ghost use Rattle.weighting.specs.Taps.{taps, weightingTaps};
 ghost use Rattle.weighting.specs.Filter.{weighted, filtered, done, refusal, weightSubframe};
-ghost use Rattle.weighting.specs.Line.{behind};
+ghost use Rattle.weighting.specs.Line.{behind, Line};
 
 pub struct WeightingTaps {
     pub status: u32,
@@ -57,12 +57,24 @@ pub fn add_tap(f: f32, z: f32, x: f32, p: f32, past: f32) -> f32
 }
 
 // A delay line that starts with a memory, oldest first.
-pub fn delay_line(memory: [f32; 10]) -> [f32; 70]
+fn start_line(memory: [f32; 10]) -> [f32; 70]
     ensures { λ r. ⌜ behind 0 r ≡ memory ⌝ }
 {
     let mut line = [0.0f32; 70];
     for k in 0..10 {
         line[k] = memory[9 - k];
+    }
+    line
+}
+
+// A delay line: a memory, and the sixty samples after it.
+pub fn delay_line(memory: [f32; 10], x: &[f32]) -> [f32; 70]
+    requires { ⌜ length (now x) ≡ 60 ⌝ }
+    ensures { λ r. ⌜ Line memory (now (x .entry)) r ⌝ }
+{
+    let mut line = start_line(memory);
+    for i in 0..60 {
+        line[i + 10] = x[i];
     }
     line
 }
@@ -97,7 +109,18 @@ pub fn weight_sample(
     f
 }
 
-// Sixty samples.
+// The sixty samples of a delay line.
+fn samples(line: [f32; 70]) -> [f32; 60]
+    ensures { λ r. ⌜ r ≡ drop 10 line ⌝ }
+{
+    let mut out = [0.0f32; 60];
+    for i in 0..60 {
+        out[i] = line[i + 10];
+    }
+    out
+}
+
+// Sixty samples, each replaced in its line by the output.
 fn weight_all(
     x: &[f32],
     wz: [f32; 10],
@@ -108,16 +131,14 @@ fn weight_all(
     requires { ⌜ length (now x) ≡ 60 ⌝ }
     ensures { λ r. ⌜ r ≡ done (filtered (now (x .entry)) wz wp «x_mem» «f_mem» 60) ⌝ }
 {
-    let mut xs = delay_line(x_mem);
-    let mut fs = delay_line(f_mem);
-    let mut out = [0.0f32; 60];
+    let xs = delay_line(x_mem, x);
+    let mut fs = delay_line(f_mem, x);
     for n in 0..60 {
-        let v = x[n];
+        let v = fs[n + 10];
         let f = weight_sample(v, n, &wz, &wp, &xs, &fs);
-        xs[n + 10] = v;
         fs[n + 10] = f;
-        out[n] = f;
     }
+    let out = samples(fs);
     let x_after = last_ten(&xs);
     let f_after = last_ten(&fs);
     Weighted {
@@ -152,10 +173,10 @@ pub fn weight_subframe(
     if x.len() != 60 {
         return refused(1, x_mem, f_mem);
     }
-    let samples = float::all_finite(x);
+    let signal = float::all_finite(x);
     let taps = float::all_finite(&wz) & float::all_finite(&wp);
     let memories = float::all_finite(&x_mem) & float::all_finite(&f_mem);
-    let finite = samples & taps & memories;
+    let finite = signal & taps & memories;
     if !finite {
         return refused(5, x_mem, f_mem);
     }

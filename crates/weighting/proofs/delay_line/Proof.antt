@@ -1,19 +1,16 @@
--- `weighting::delay_line` meets its contract: after k turns the memory's last k values stand, the oldest first. Assumes nothing.
+-- `weighting::delay_line` meets its contract: after i turns the first i samples stand behind the memory. Assumes nothing.
 use borrow.Author.Needs.{needs}
-use mathlib.Core.Path.{refl}
-use Prim.Native.Nat.{_-_, _≤_, zero-le}
-use native.Mathlib.Omega.{arith}
-use Rattle.float.proofs.Table.{Filled, filled-none, filled-more}
-use Rattle.float.specs.Vector.{at}
-use Rattle.weighting.proofs.Line.{behind-none}
+use Prim.Native.Nat.{_-_}
+use Rattle.weighting.specs.Line.{behind}
+use Rattle.weighting.proofs.Line.{Laid, laid-none, laid-more, laid-all}
 use Rattle.weighting.proofs.delay_line.Statement.{statement}
 use Rattle.weighting.proofs.delay_line.Tie as tie
 
 abbrev Inv-loop : tie.InvT-loop
-Inv-loop memory line₀ k₀ line k = (k ≤ 10) × Filled 70 (λ i. at memory (9 - i)) k line
+Inv-loop x line₀ i₀ line i = Laid (behind 0 line₀) x i line
 
 abbrev μ-loop : tie.MeasureT-loop
-μ-loop memory line₀ k₀ line k = 10 - k
+μ-loop x line₀ i₀ line i = 60 - i
 
 pub delay-line-spec : {M : Type 1} → statement M
 delay-line-spec =
@@ -21,23 +18,25 @@ delay-line-spec =
     (tie.spec
     Inv-loop
     μ-loop
+    -- start-line-requires
+    (λ c κs. search needs)
     -- loop-holds
-    (λ c. (zero-le, filled-none 70 _ _ refl))
-    -- sub-line
-    (λ c. search needs)
+    (λ c. laid-none _ _ (search needs))
     -- mul-line
     (λ c. search needs)
-    -- array-read-line
+    -- shared-slice-read-line
+    (λ c. search needs)
+    -- add-line
     (λ c. search needs)
     -- mul-line-2
     (λ c. search needs)
     -- array-write-line
     (λ c. search needs)
-    -- add-k
+    -- add-i
     (λ c. search needs)
     -- loop-less
     (λ c. search needs)
     -- loop-again
-    (λ c. (omega arith, filled-more 70 _ _ _ _ (omega arith) refl (c .before .loop .inv .1)))
+    (λ c. laid-more _ _ _ _ (c .before .before .before .before .before .pre) (c .before .loop-test .taken) (c .before .before .loop .inv))
     -- returns
-    (λ c. behind-none _ _ _ (search needs) (omega arith) (c .before .loop .inv .1)))
+    (λ c. laid-all _ _ _ _ _ (c .before .before .before .before .pre) (c .loop-test .left) (c .before .before .start-line .ensures) (c .before .loop .inv)))
