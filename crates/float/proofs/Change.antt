@@ -37,13 +37,13 @@ set-table {A} n f g i a h e o =
 abbrev pub between : {A : Type 0} → ℕ → ℕ → (ℕ → A) → (ℕ → A) → ℕ → A
 between a b new old j = cond (leb a j && ltb j b) (new j) (old j)
 
-in-range : {A : Type 0} (a b : ℕ) (new old : ℕ → A) (j : ℕ) → a ≤ j → j < b → between a b new old j ≡ new j
+pub in-range : {A : Type 0} (a b : ℕ) (new old : ℕ → A) (j : ℕ) → a ≤ j → j < b → between a b new old j ≡ new j
 in-range a b new old j h k = rw (le-leb a j h, lt-ltb j b k)
 
-below-range : {A : Type 0} (a b : ℕ) (new old : ℕ → A) (j : ℕ) → j < a → between a b new old j ≡ old j
+pub below-range : {A : Type 0} (a b : ℕ) (new old : ℕ → A) (j : ℕ) → j < a → between a b new old j ≡ old j
 below-range a b new old j h = rw (lt-leb a j h)
 
-above-range : {A : Type 0} (a b : ℕ) (new old : ℕ → A) (j : ℕ) → b ≤ j → between a b new old j ≡ old j
+pub above-range : {A : Type 0} (a b : ℕ) (new old : ℕ → A) (j : ℕ) → b ≤ j → between a b new old j ≡ old j
 above-range a b new old j h = pick (leb a j) refl
   where
     pick : (t : Bool) → leb a j ≡ t → between a b new old j ≡ old j
