@@ -1,6 +1,7 @@
 -- Laws that other crates cite.
 pub mod Table
 pub mod Loop
+pub mod Change
 pub mod All
 pub mod Order
 pub mod Value
