@@ -3,5 +3,6 @@ pub mod Blend
 pub mod Exact
 pub mod Monotone
 pub mod Least
+pub mod Held
 pub mod Whole
 mod Halving

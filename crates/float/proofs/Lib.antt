@@ -1,7 +1,9 @@
 -- Laws that other crates cite.
 pub mod Table
 pub mod Loop
+pub mod Turns
 pub mod All
+pub mod Any
 pub mod Order
 pub mod Value
 pub mod Product
@@ -9,6 +11,7 @@ pub mod Rounded
 pub mod Dyadic
 pub mod Truncate
 pub mod Bound
+pub mod Range
 pub mod HalfEven
 pub mod Units
 pub mod Patterns
