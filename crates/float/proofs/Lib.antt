@@ -1,8 +1,13 @@
 -- Laws that other crates cite.
 pub mod Table
 pub mod Loop
+<<<<<<< HEAD
 pub mod Change
+=======
+pub mod Turns
+>>>>>>> stability
 pub mod All
+pub mod Any
 pub mod Order
 pub mod Value
 pub mod Product
@@ -10,6 +15,7 @@ pub mod Rounded
 pub mod Dyadic
 pub mod Truncate
 pub mod Bound
+pub mod Range
 pub mod HalfEven
 pub mod Units
 pub mod Patterns
