@@ -1,11 +1,8 @@
 -- Laws that other crates cite.
 pub mod Table
 pub mod Loop
-<<<<<<< HEAD
 pub mod Change
-=======
 pub mod Turns
->>>>>>> stability
 pub mod All
 pub mod Any
 pub mod Order

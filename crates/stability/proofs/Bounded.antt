@@ -18,7 +18,8 @@ use Rattle.float.specs.Vector.{at}
 use Rattle.float.proofs.All.{all-at}
 use Rattle.float.proofs.Any.{any-none}
 use Rattle.float.proofs.Dyadic.{dyadic-exact}
-use Rattle.float.proofs.Range.{AtMost, nought, at-most-wider, at-most-value, at-most-cond, at-most-exceeds, at-most-between, at-most-sub, at-most-mul, at-most-div, not-lt-le, round-at-most}
+use Rattle.float.proofs.Order.{le-of-not-lt}
+use Rattle.float.proofs.Range.{AtMost, nought, at-most-wider, at-most-value, at-most-cond, at-most-exceeds, at-most-between, at-most-sub, at-most-mul, at-most-div, round-at-most}
 use Rattle.float.proofs.Table.{length-table, at-table}
 use Rattle.float.proofs.Value.{value-finite}
 use Rattle.cosine.specs.Step.{held, step}
@@ -60,8 +61,8 @@ right false b e = e
 hz-bound : (hz : Float) → T (finite hz) → outside hz ≡ false → AtMost 400 1 hz
 unfolding outside
 hz-bound hz f h =
-    let a : T (le nought hz) = subst (λ (z : Float). T (le z hz)) zero-is (not-lt-le hz (single 0 1) f (subst (λ (z : Float). T (finite z)) (sym zero-is) tt) (left (lt hz (single 0 1)) (lt (single 400 1) hz) h)) in
-    let b : T (le hz (single 400 1)) = not-lt-le (single 400 1) hz (value-finite (single 400 1) false 400 1 (whole 400 (lit< tt))) f (right (lt hz (single 0 1)) (lt (single 400 1) hz) h) in
+    let a : T (le nought hz) = subst (λ (z : Float). T (le z hz)) zero-is (le-of-not-lt hz (single 0 1) f (subst (λ (z : Float). T (finite z)) (sym zero-is) tt) (left (lt hz (single 0 1)) (lt (single 400 1) hz) h)) in
+    let b : T (le hz (single 400 1)) = le-of-not-lt (single 400 1) hz (value-finite (single 400 1) false 400 1 (whole 400 (lit< tt))) f (right (lt hz (single 0 1)) (lt (single 400 1) hz) h) in
     at-most-between hz (single 400 1) 400 1 a b (whole 400 (lit< tt))
 
 pub half-bound : (hz : Float) → T (finite hz) → outside hz ≡ false → Sixteenths 3 (half (spacing hz))
