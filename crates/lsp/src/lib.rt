@@ -337,7 +337,7 @@ fn refine(c: &[f64; 6], s: Crossings) -> [f32; 5]
     let mut s2 = bracket_of(c, low[2], high[2]);
     let mut s3 = bracket_of(c, low[3], high[3]);
     let mut s4 = bracket_of(c, low[4], high[4]);
-    for k in 0..50 {
+    for k in 0usize..50 {
         let t0 = halve(c, s0);
         let t1 = halve(c, s1);
         let t2 = halve(c, s2);

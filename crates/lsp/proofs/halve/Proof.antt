@@ -32,4 +32,4 @@ halve-spec =
     -- pick-requires-3
     (λ c κs. search needs)
     -- returns
-    (λ c. ?))
+    (λ c. picked _ _ _ _ _ _ (c .before .before .before .before .value-at .ensures) (c .before .before .pick .ensures) (c .before .pick2 .ensures) (c .pick3 .ensures)))

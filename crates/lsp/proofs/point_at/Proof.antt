@@ -56,7 +56,7 @@ point-at-spec =
     -- int-to-float-result
     (λ c. search needs)
     -- returns
-    (λ c. low _ _ (c .before .before .pre .0) (c .before .if1 .taken))
+    (λ c. low _ _ (c .before .before .before .pre .0) (c .before .before .if1 .taken))
     -- mul-result-3
     (λ c. search needs)
     -- sub-result
@@ -68,4 +68,4 @@ point-at-spec =
     -- int-to-float-result-2
     (λ c. search needs)
     -- returns-2
-    (λ c. high _ _ (c .before .before .pre .0) (c .before .if1 .left) (c .before .before .pre .1)))
+    (λ c. high _ _ (c .before .before .before .pre .0) (c .before .before .if1 .left) (c .before .before .before .pre .1)))

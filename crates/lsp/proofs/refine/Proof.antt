@@ -67,7 +67,13 @@ refine-spec =
     -- loop-less
     (λ c. search needs)
     -- loop-again
-    (λ c. ?)
+    (λ c. (
+      went-more 0 50 _ _ _ _ _ (c .before .before .before .before .before .loop-test .taken) (c .before .before .before .before .halve .ensures) (c .before .before .before .before .before .before .loop .inv .0),
+      went-more 0 50 _ _ _ _ _ (c .before .before .before .before .before .loop-test .taken) (c .before .before .before .halve2 .ensures) (c .before .before .before .before .before .before .loop .inv .1),
+      went-more 0 50 _ _ _ _ _ (c .before .before .before .before .before .loop-test .taken) (c .before .before .halve3 .ensures) (c .before .before .before .before .before .before .loop .inv .2),
+      went-more 0 50 _ _ _ _ _ (c .before .before .before .before .before .loop-test .taken) (c .before .halve4 .ensures) (c .before .before .before .before .before .before .loop .inv .3),
+      went-more 0 50 _ _ _ _ _ (c .before .before .before .before .before .loop-test .taken) (c .halve5 .ensures) (c .before .before .before .before .before .before .loop .inv .4),
+    ))
     -- array-read-settle
     (λ c. search needs)
     -- settle-requires
@@ -89,4 +95,9 @@ refine-spec =
     -- settle-requires-5
     (λ c κs. search needs)
     -- returns
-    (λ c. ?))
+    (λ c. five _ _ _ _ _ _
+    (refined _ _ 0 _ _ _ _ (c .before .before .before .before .before .loop-test .left) (c .before .before .before .before .before .before .before .before .before .before .before .bracket-of .ensures) (c .before .before .before .before .before .before .loop .inv .0) (c .before .before .before .before .settle .ensures))
+    (refined _ _ 1 _ _ _ _ (c .before .before .before .before .before .loop-test .left) (c .before .before .before .before .before .before .before .before .before .before .bracket-of2 .ensures) (c .before .before .before .before .before .before .loop .inv .1) (c .before .before .before .settle2 .ensures))
+    (refined _ _ 2 _ _ _ _ (c .before .before .before .before .before .loop-test .left) (c .before .before .before .before .before .before .before .before .before .bracket-of3 .ensures) (c .before .before .before .before .before .before .loop .inv .2) (c .before .before .settle3 .ensures))
+    (refined _ _ 3 _ _ _ _ (c .before .before .before .before .before .loop-test .left) (c .before .before .before .before .before .before .before .before .bracket-of4 .ensures) (c .before .before .before .before .before .before .loop .inv .3) (c .before .settle4 .ensures))
+    (refined _ _ 4 _ _ _ _ (c .before .before .before .before .before .loop-test .left) (c .before .before .before .before .before .before .before .bracket-of5 .ensures) (c .before .before .before .before .before .before .loop .inv .4) (c .settle5 .ensures))))

@@ -37,4 +37,4 @@ settle-spec =
     -- narrow-requires-2
     (λ c κs. search needs)
     -- returns-2
-    (λ c. inside _ _ _ _ _ (c .before .before .value-at .ensures) (c .before .if1 .left) (c .narrow2 .ensures)))
+    (λ c. inside _ _ _ _ _ (c .before .before .before .value-at .ensures) (c .before .before .if1 .left) (c .narrow2 .ensures)))

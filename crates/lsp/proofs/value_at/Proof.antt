@@ -41,4 +41,4 @@ value-at-spec =
     -- element-copy-out-result
     (λ c. search needs)
     -- returns
-    (λ c. ?))
+    (λ c. steps _ _ _ _ _ _ _ (c .before .before .before .before .before .before .before .before .before .step .ensures) (c .before .before .before .before .before .before .before .step2 .ensures) (c .before .before .before .before .before .step3 .ensures) (c .before .before .before .step4 .ensures) (c .before .step5 .ensures)))
