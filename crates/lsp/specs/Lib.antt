@@ -2,3 +2,6 @@
 pub mod Answer
 pub mod Interpolate
 pub mod Polynomial
+pub mod Chebyshev
+pub mod Root
+pub mod Pairs
