@@ -3,3 +3,7 @@ pub mod Sums
 mod Lanes
 mod Turns
 mod Window
+mod Powers
+pub mod Edge
+pub mod Winner
+mod Settings

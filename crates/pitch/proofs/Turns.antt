@@ -35,7 +35,7 @@ abbrev pub offer : Rule → List Float → ℕ → ℕ → ℕ → Best → Best
 offer beats x o count j b = offered beats b j (cross x o count j) (power x o count j)
 
 -- place first + 7 − j of a table of eight is lag j's
-own : (f : ℕ → Float) (t : List Float) (first j : ℕ) → first ≤ j → j < first + 8 → t ≡ table 8 (λ i. f (first + 7 - i)) → getD t (first + 7 - j) nan ≡ f j
+pub own : (f : ℕ → Float) (t : List Float) (first j : ℕ) → first ≤ j → j < first + 8 → t ≡ table 8 (λ i. f (first + 7 - i)) → getD t (first + 7 - j) nan ≡ f j
 own f t first j h l e =
     let d : first + 7 - (first + 7 - j) ≡ j = omega arith in
     ap (λ (z : List Float). getD z (first + 7 - j) nan) e ∙ at-table 8 (λ i. f (first + 7 - i)) (first + 7 - j) nan (omega arith) ∙ ap f d

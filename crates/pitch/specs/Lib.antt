@@ -2,3 +2,5 @@
 pub mod Lags
 pub mod Search
 pub mod Pitch
+pub mod Gate
+pub mod Shaping
