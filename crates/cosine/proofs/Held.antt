@@ -1,30 +1,36 @@
--- A finite cosine held to −1..1 is no less than −1, so that it has a step. Assumes nothing.
+-- A finite cosine held to -1..1 is no less than -1, so that it has a least step, of at most 2^24. Assumes nothing.
 use mathlib.Core.Path.{_≡_, refl}
 use mathlib.Core.Bool.{Bool, true, false, cond}
-use Prim.Native.Nat.{_^_, _≤_}
+use Prim.Native.Nat.{ℕ, _^_, _≤_}
 use lib.Dec.{T}
-use lib.Ieee.{Float, lt, eq, le, neg, round}
+use lib.Ieee.{Float, round, lt, le, neg}
 use lib.Ieee.Scale.{finite}
 use Rattle.float.specs.Single.{single}
-use Rattle.float.proofs.Range.{not-lt-le}
-use Rattle.cosine.specs.Step.{held, step}
-use Rattle.cosine.proofs.Least.{step-least}
+use Rattle.float.proofs.Order.{le-of-not-lt}
+use Rattle.cosine.specs.Step.{held, reached, step}
+use Rattle.cosine.proofs.Least.{Least, step-least}
 
-abbrev one : Float
-one = single 1 1
+one : T (le (neg (single 1 1)) (single 1 1))
+unfolding single round neg le
+one = tt
 
-ends : T (le (neg one) one) × T (le (neg one) (neg one)) × T (finite (neg one))
-unfolding neg single round lt eq le
-ends = (tt, tt, tt)
+minus-one : T (le (neg (single 1 1)) (neg (single 1 1)))
+unfolding single round neg le
+minus-one = tt
 
-pub held-least : (c : Float) → T (finite c) → T (le (neg one) (held c))
+minus-finite : T (finite (neg (single 1 1)))
+unfolding single round neg
+minus-finite = tt
+
+pub held-least : (c : Float) → T (finite c) → T (le (neg (single 1 1)) (held c))
 unfolding held
-held-least c f = go (lt one c) (lt c (neg one)) refl
+held-least c h = go (lt (single 1 1) c) (lt c (neg (single 1 1))) refl
   where
-    go : (a b : Bool) → lt c (neg one) ≡ b → T (le (neg one) (cond a one (cond b (neg one) c)))
-    go true b e = ends .0
-    go false true e = ends .1
-    go false false e = not-lt-le c (neg one) f (ends .2) e
+    go : (x y : Bool) → lt c (neg (single 1 1)) ≡ y → T (le (neg (single 1 1)) (cond x (single 1 1) (cond y (neg (single 1 1)) c)))
+    go true y e = one
+    go false true e = minus-one
+    go false false e = le-of-not-lt c (neg (single 1 1)) h minus-finite e
 
-pub held-step : (c : Float) → T (finite c) → step (held c) ≤ 2 ^ 24
-held-step c f = step-least (held c) (held-least c f) .1
+-- the step of a finite cosine
+pub step-held : (c : Float) → T (finite c) → Least (reached (held c)) (step (held c)) × (step (held c) ≤ 2 ^ 24)
+step-held c h = step-least (held c) (held-least c h)

@@ -1,22 +1,20 @@
 -- Bounds on magnitudes that survive rounding: where |x| ≤ a / c and |y| ≤ b / c, a sum, difference or product has the bound that the exact result has,
 -- provided that the format holds that bound. Assumes nothing.
 use mathlib.Core.Path.{_≡_, refl, sym, ap, _∙_, subst}
-use mathlib.Core.Bool.{Bool, true, false, not, _&&_, _||_, cond, Bool·beq}
-use Prim.Native.Nat.{ℕ, zero, suc, _+_, _-_, _*_, _^_, _≤_, _<_, zero-le}
-use native.Mathlib.Nat.{le-trans, le-of-eq, mul-one, one-mul, zero-mul, mul-comm, mul-assoc, mul-left-comm, mul-right-comm, mul-pos, mul-le-mul-right, mul-le-mul-left, le-of-mul-le-mul-right, add-mul}
+use mathlib.Core.Bool.{Bool, true, false, _&&_, cond, Bool·beq}
+use Prim.Native.Nat.{ℕ, _+_, _-_, _*_, _^_, _≤_, _<_, zero-le}
+use native.Mathlib.Nat.{le-trans, le-of-eq, mul-one, zero-mul, mul-comm, mul-assoc, mul-left-comm, mul-right-comm, mul-pos, mul-le-mul-right, mul-le-mul-left, le-of-mul-le-mul-right, add-mul}
 use native.Mathlib.Omega.{arith}
 use lib.Dec.{T, ltb, lit<}
-use lib.IntN.{ℤ, pos}
-use lib.Ieee.{Float, nan, inf, fin, Format, binary32, binary64, up, down, unlike, below, lt, eq, le, neg, sum, add, sub, mul, div, round}
+use lib.IntN.{pos}
+use lib.Ieee.{Float, nan, inf, fin, Format, binary32, binary64, up, down, unlike, lt, eq, le, neg, sum, add, sub, mul, div, round}
 use lib.Ieee.Exact.{HasValue}
 use lib.Ieee.Fits.{down-pos}
 use lib.Ieee.Order.{round-mono}
-use lib.Ieee.Scale.{finite}
-use borrow.Author.Tests.{ltb-false}
 use Rattle.float.specs.Finite.{power, exceeds}
 use Rattle.float.proofs.Bound.{within}
-use Rattle.float.proofs.Order.{Under, test-under, under-test}
-use Rattle.float.proofs.Product.{mul-value, div-value}
+use Rattle.float.proofs.Order.{test-under}
+use Rattle.float.proofs.Product.{div-value}
 use Rattle.float.proofs.Rounded.{round-neg}
 
 -- |x| ≤ a / c, for a c above 0
@@ -65,24 +63,6 @@ at-most-exceeds k (inf s) l = absurd l
 at-most-exceeds k (fin s m e) l = within k s m e (subst (λ (z : ℕ). z ≤ 2 ^ k * down e) (mul-one (m * up e)) l)
 
 -- ---- by the order of floats
--- what is not below is no less, where neither is a NaN or infinite
-pub not-lt-le : (x y : Float) → T (finite x) → T (finite y) → lt x y ≡ false → T (le y x)
-unfolding lt eq le
-not-lt-le nan y p q h = absurd p
-not-lt-le (inf s) y p q h = absurd p
-not-lt-le (fin s m e) nan p q h = absurd q
-not-lt-le (fin s m e) (inf t) p q h = absurd q
-not-lt-le (fin s m e) (fin t n g) p q h = under-test t (n * up g * down e) s (m * up e * down g) (turned s (m * up e * down g) t (n * up g * down e) h)
-  where
-    turned : (s : Bool) (a : ℕ) (t : Bool) (b : ℕ) → below s a t b ≡ false → Under t b s a
-    turned false a false b h = ltb-false a b h
-    turned false a true b h = tt
-    turned true a false b h = none (ltb-false 0 (a + b) h)
-      where
-        none : a + b ≤ 0 → b + a ≡ 0
-        none l = omega arith
-    turned true a true b h = ltb-false b a h
-
 abbrev pub nought : Float
 nought = fin false 0 (pos 0)
 
