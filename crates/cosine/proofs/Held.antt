@@ -34,6 +34,3 @@ held-least c h = go (lt (single 1 1) c) (lt c (neg (single 1 1))) refl
 -- the step of a finite cosine
 pub step-held : (c : Float) → T (finite c) → Least (reached (held c)) (step (held c)) × (step (held c) ≤ 2 ^ 24)
 step-held c h = step-least (held c) (held-least c h)
-
-pub held-step : (c : Float) → T (finite c) → step (held c) ≤ 2 ^ 24
-held-step c h = step-held c h .1

@@ -1,33 +1,20 @@
--- What `any` says of each element: none passes exactly where each one fails. Assumes nothing.
-use mathlib.Core.Path.{_≡_, refl, sym, ap, _∙_, subst}
-use mathlib.Core.Bool.{Bool, true, false, not, _&&_}
+-- Where each element passes, all do, and where each fails, none does. Assumes nothing.
+use mathlib.Core.Path.{_≡_, sym, ap, subst}
+use mathlib.Core.Bool.{Bool, false, not}
 use mathlib.Core.List.{List, [], _∷_}
-use Prim.Native.Nat.{ℕ, zero, suc, _<_}
-use native.Mathlib.Nat.{le-of-suc-le-suc, zero-lt-suc}
+use Prim.Native.Nat.{ℕ, suc, _<_}
+use native.Mathlib.Nat.{zero-lt-suc}
 use native.Mathlib.Omega.{arith}
 use lib.Dec.{T}
+use lib.Ieee.Bits.{is-true}
 use lib.Ieee.Fits.{and-i}
 use lib.ListN.{length, getD}
-use borrow.Author.Tests.{not-false}
 use Rattle.float.specs.Refusal.{all, any}
-use Rattle.float.proofs.All.{all-at}
-
--- a test that is passed, or not, as an equation
-pub holds : (b : Bool) → T b → b ≡ true
-holds true t = refl
-holds false t = absurd t
-
-pub fails : (b : Bool) → T (not b) → b ≡ false
-fails true t = absurd t
-fails false t = refl
 
 pub all-of : {A : Type 0} (p : A → Bool) (s : List A) (d : A) → ((i : ℕ) → i < length s → T (p (getD s i d))) → T (all p s)
 unfolding all
 all-of p [] d h = tt
 all-of p (x ∷ xs) d h = and-i (p x) (all p xs) (h 0 (zero-lt-suc (length xs))) (all-of p xs d (λ i l. h (suc i) (omega arith)))
 
-pub any-at : {A : Type 0} (p : A → Bool) (s : List A) → any p s ≡ false → (i : ℕ) (d : A) → i < length s → p (getD s i d) ≡ false
-any-at p s e i d h = fails (p (getD s i d)) (all-at (λ x. not (p x)) s (subst T (sym (not-false (all (λ x. not (p x)) s) e)) tt) i d h)
-
-pub any-none : {A : Type 0} (p : A → Bool) (s : List A) (d : A) → ((i : ℕ) → i < length s → p (getD s i d) ≡ false) → any p s ≡ false
-any-none p s d h = ap not (holds (all (λ x. not (p x)) s) (all-of (λ x. not (p x)) s d (λ i l. subst (λ (b : Bool). T (not b)) (sym (h i l)) tt)))
+pub any-of : {A : Type 0} (p : A → Bool) (s : List A) (d : A) → ((i : ℕ) → i < length s → p (getD s i d) ≡ false) → any p s ≡ false
+any-of p s d h = ap not (is-true (all (λ x. not (p x)) s) (all-of (λ x. not (p x)) s d (λ i l. subst (λ (b : Bool). T (not b)) (sym (h i l)) tt)))

@@ -1,5 +1,6 @@
 -- Laws that other crates cite.
 pub mod Table
+pub mod Mapped
 pub mod Loop
 pub mod Change
 pub mod Turns

@@ -1,22 +1,20 @@
 -- Bounds on magnitudes that survive rounding: where |x| ≤ a / c and |y| ≤ b / c, a sum, difference or product has the bound that the exact result has,
 -- provided that the format holds that bound. Assumes nothing.
 use mathlib.Core.Path.{_≡_, refl, sym, ap, _∙_, subst}
-use mathlib.Core.Bool.{Bool, true, false, not, _&&_, _||_, cond, Bool·beq}
-use Prim.Native.Nat.{ℕ, zero, suc, _+_, _-_, _*_, _^_, _≤_, _<_, zero-le}
-use native.Mathlib.Nat.{le-trans, le-of-eq, mul-one, one-mul, zero-mul, mul-comm, mul-assoc, mul-left-comm, mul-right-comm, mul-pos, mul-le-mul-right, mul-le-mul-left, le-of-mul-le-mul-right, add-mul}
+use mathlib.Core.Bool.{Bool, true, false, _&&_, cond, Bool·beq}
+use Prim.Native.Nat.{ℕ, _+_, _-_, _*_, _^_, _≤_, _<_, zero-le}
+use native.Mathlib.Nat.{le-trans, le-of-eq, mul-one, zero-mul, mul-comm, mul-assoc, mul-left-comm, mul-right-comm, mul-pos, mul-le-mul-right, mul-le-mul-left, le-of-mul-le-mul-right, add-mul}
 use native.Mathlib.Omega.{arith}
 use lib.Dec.{T, ltb, lit<}
-use lib.IntN.{ℤ, pos}
-use lib.Ieee.{Float, nan, inf, fin, Format, binary32, binary64, up, down, unlike, below, lt, eq, le, neg, sum, add, sub, mul, div, round}
+use lib.IntN.{pos}
+use lib.Ieee.{Float, nan, inf, fin, Format, binary32, binary64, up, down, unlike, lt, eq, le, neg, sum, add, sub, mul, div, round}
 use lib.Ieee.Exact.{HasValue}
 use lib.Ieee.Fits.{down-pos}
 use lib.Ieee.Order.{round-mono}
-use lib.Ieee.Scale.{finite}
-use borrow.Author.Tests.{ltb-false}
 use Rattle.float.specs.Finite.{power, exceeds}
 use Rattle.float.proofs.Bound.{within}
-use Rattle.float.proofs.Order.{Under, test-under, under-test, le-of-not-lt}
-use Rattle.float.proofs.Product.{mul-value, div-value}
+use Rattle.float.proofs.Order.{test-under}
+use Rattle.float.proofs.Product.{div-value}
 use Rattle.float.proofs.Rounded.{round-neg}
 
 -- |x| ≤ a / c, for a c above 0

@@ -1,6 +1,6 @@
 -- What is known of a loop's state turn by turn: a fact about the first state that each turn carries on, with the turn's number in it, holds of the last one.
 -- Assumes nothing.
-use mathlib.Core.Path.{_≡_, sym, subst}
+use mathlib.Core.Path.{_≡_, subst}
 use Prim.Native.Nat.{ℕ, zero, suc, _+_, _-_, _≤_, _<_}
 use native.Mathlib.Omega.{arith}
 use Rattle.float.specs.Loop.{times, over}

@@ -2,12 +2,12 @@
 -- and ten passes raise it by 3/8 each. So the exact arithmetic of `stepOfAngle` has room. Assumes nothing.
 use mathlib.Core.Path.{_≡_, refl, sym, ap, _∙_, subst}
 use mathlib.Core.Bool.{Bool, true, false, _||_}
-use mathlib.Core.List.{List}
-use Prim.Native.Nat.{ℕ, _+_, _*_, _^_, _≤_, _<_}
+use mathlib.Core.List.{List, map}
+use Prim.Native.Nat.{ℕ, _*_, _^_, _≤_, _<_}
 use native.Mathlib.Nat.{le-trans, mul-le-mul-right}
 use native.Mathlib.Omega.{arith}
 use lib.Dec.{T, lit<, lit≤}
-use lib.ListN.{length}
+use lib.ListN.{length, set, length-map}
 use lib.Ieee.{Float, nan, binary32, round, lt, le}
 use lib.Ieee.Exact.{HasValue}
 use lib.Ieee.Scale.{finite}
@@ -16,20 +16,20 @@ use Rattle.float.specs.Refusal.{all}
 use Rattle.float.specs.Single.{_⊖_, _⊗_, single}
 use Rattle.float.specs.Vector.{at}
 use Rattle.float.proofs.All.{all-at}
-use Rattle.float.proofs.Any.{any-none}
+use Rattle.float.proofs.Any.{any-of}
 use Rattle.float.proofs.Dyadic.{dyadic-exact}
 use Rattle.float.proofs.Order.{le-of-not-lt}
 use Rattle.float.proofs.Range.{AtMost, nought, at-most-wider, at-most-value, at-most-cond, at-most-exceeds, at-most-between, at-most-sub, at-most-mul, at-most-div, round-at-most}
-use Rattle.float.proofs.Table.{length-table, at-table}
+use Rattle.float.proofs.Table.{at-table, map-table}
 use Rattle.float.proofs.Value.{value-finite}
 use Rattle.cosine.specs.Step.{held, step}
 use Rattle.cosine.specs.Angle.{angle}
-use Rattle.cosine.proofs.Held.{held-step}
+use Rattle.cosine.proofs.Held.{step-held}
 use Rattle.stability.specs.Spacing.{tau, pi, spacing, half, outside}
 use Rattle.stability.specs.Passes.{settled}
 use Rattle.stability.specs.Clamps.{margin, raised, lowered, clamped}
-use Rattle.stability.specs.Stability.{anglesOf, stable}
-use Rattle.stability.proofs.Angles.{Sixteenths, single-holds, wider, Angles, angles-wider, angles-set, angles-cond}
+use Rattle.stability.specs.Stability.{angleOf, stable}
+use Rattle.stability.proofs.Angles.{Sixteenths, single-holds, wider, Angles, angles-set, angles-cond}
 use Rattle.stability.proofs.Spread.{one-half, settled-bound}
 
 -- ---- constants
@@ -79,11 +79,10 @@ angle-bound k h =
     round-at-most binary32 false (k * 13176795) (2 ^ 22 * 2 ^ 24) 52 16 (lit< tt) (lit< tt) (single-holds 52 (lit< tt))
     (le-trans (mul-le-mul-right 16 (mul-le-mul-right 13176795 h)) (lit≤ tt))
 
-start-bound : (c : List Float) → length c ≡ 10 → T (all finite c) → Angles 52 (anglesOf c)
-unfolding anglesOf
+start-bound : (c : List Float) → length c ≡ 10 → T (all finite c) → Angles 52 (map angleOf c)
 start-bound c e t = record {
-  long = length-table 10 (λ i. angle (step (held (at c i))));
-  each = λ i l. subst (Sixteenths 52) (sym (at-table 10 (λ k. angle (step (held (at c k)))) i nan l)) (angle-bound (step (held (at c i))) (held-step (at c i) (all-at finite c t i nan (rw e l))));
+  long = length-map c angleOf ∙ e;
+  each = λ i l. subst (Sixteenths 52) (sym (ap (λ (ω : List Float). at ω i) (map-table angleOf c 10 nan e) ∙ at-table 10 (λ k. angleOf (at c k)) i nan l)) (angle-bound (step (held (at c i))) (step-held (at c i) (all-at finite c t i nan (rw e l)) .1));
 }
 
 -- ---- the clamps
@@ -99,20 +98,20 @@ clamped-bound n delta ω h near r =
     let m = margin delta in
     let p : Sixteenths 3 m = margin-bound delta near in
     let q : Sixteenths 55 (pi ⊖ m) = at-most-sub binary32 pi m 52 3 16 (lit< tt) (single-holds 55 (lit< tt)) pi-bound p in
-    let s : Angles n (raised 0 m ω) = angles-cond n (lt (at ω 0) m) (lib.ListN.set ω 0 m) ω (angles-set n ω 0 m (lit< tt) (wider 3 n m (omega arith) p) r) r in
-    angles-cond n (lt (pi ⊖ m) (at (raised 0 m ω) 9)) (lib.ListN.set (raised 0 m ω) 9 (pi ⊖ m)) (raised 0 m ω) (angles-set n (raised 0 m ω) 9 (pi ⊖ m) (lit< tt) (wider 55 n (pi ⊖ m) h q) s) s
+    let s : Angles n (raised 0 m ω) = angles-cond n (lt (at ω 0) m) (set ω 0 m) ω (angles-set n ω 0 m (lit< tt) (wider 3 n m (omega arith) p) r) r in
+    angles-cond n (lt (pi ⊖ m) (at (raised 0 m ω) 9)) (set (raised 0 m ω) 9 (pi ⊖ m)) (raised 0 m ω) (angles-set n (raised 0 m ω) 9 (pi ⊖ m) (lit< tt) (wider 55 n (pi ⊖ m) h q) s) s
 
 -- ---- all of it: 112 sixteenths
-pub stable-bound : (c : List Float) (hz : Float) → length c ≡ 10 → T (all finite c) → T (finite hz) → outside hz ≡ false → Angles 112 (stable (spacing hz) (anglesOf c) .angles)
+pub stable-bound : (c : List Float) (hz : Float) → length c ≡ 10 → T (all finite c) → T (finite hz) → outside hz ≡ false → Angles 112 (stable (spacing hz) (map angleOf c) .angles)
 unfolding stable
 stable-bound c hz e t f h =
     let near = half-bound hz f h in
-    clamped-bound 112 (spacing hz) (settled (spacing hz) (anglesOf c) .angles) (lit≤ tt) near
-    (settled-bound 52 (spacing hz) (anglesOf c) (lit< tt) near (start-bound c e t))
+    clamped-bound 112 (spacing hz) (settled (spacing hz) (map angleOf c) .angles) (lit≤ tt) near
+    (settled-bound 52 (spacing hz) (map angleOf c) (lit< tt) near (start-bound c e t))
 
 -- as the code's contract asks it
-pub stable-room : (c : List Float) (hz : Float) → length c ≡ 10 → T (all finite c) → T (finite hz) → outside hz ≡ false → anyExceeds (power 4) (stable (spacing hz) (anglesOf c) .angles) ≡ false
+pub stable-room : (c : List Float) (hz : Float) → length c ≡ 10 → T (all finite c) → T (finite hz) → outside hz ≡ false → anyExceeds (power 4) (stable (spacing hz) (map angleOf c) .angles) ≡ false
 stable-room c hz e t f h =
-    let ω = stable (spacing hz) (anglesOf c) .angles in
+    let ω = stable (spacing hz) (map angleOf c) .angles in
     let r = stable-bound c hz e t f h in
-    any-none (exceeds (power 4)) ω nan (λ i l. at-most-exceeds 4 (at ω i) (at-most-wider (at ω i) 112 16 16 1 (lit< tt) (lit≤ tt) (r .each i (rw (r .long) at l))))
+    any-of (exceeds (power 4)) ω nan (λ i l. at-most-exceeds 4 (at ω i) (at-most-wider (at ω i) 112 16 16 1 (lit< tt) (lit≤ tt) (r .each i (rw (r .long) at l))))

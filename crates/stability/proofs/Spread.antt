@@ -1,13 +1,14 @@
 -- How far a pass moves an angle. With half a spacing of at most 3/16, a pass raises the bound on the magnitudes by at most 3/8: at the pair j the angle j may
 -- have been moved already and the angle j + 1 has not, so that their middle is at most 3/16 past the bound before the pass. Assumes nothing.
-use mathlib.Core.Path.{_≡_, refl, sym, ap, _∙_, subst}
+use mathlib.Core.Path.{_≡_, sym, _∙_, subst}
 use mathlib.Core.Bool.{Bool, true, false, cond}
 use mathlib.Core.List.{List}
-use Prim.Native.Nat.{ℕ, suc, _+_, _*_, _^_, _≤_, _<_, zero-le}
+use Prim.Native.Nat.{ℕ, suc, _+_, _*_, _^_, _<_, zero-le}
 use native.Mathlib.Omega.{arith}
 use lib.Dec.{lit<, lit≤}
 use lib.ListN.{length, set, length-set}
-use lib.Ieee.{Float, binary32, round}
+use lib.Seq.{getD-set-other}
+use lib.Ieee.{Float, nan, binary32, round}
 use Rattle.float.specs.Loop.{over}
 use Rattle.float.specs.Single.{_⊕_, _⊖_, _⊗_, single}
 use Rattle.float.specs.Vector.{at}
@@ -54,7 +55,7 @@ module _ (n : ℕ) (delta : Float) (small : n < 2 ^ 20) (near : Sixteenths 3 (ha
       }
     where
       kept : (ω : List Float) (j i : ℕ) (x y : Float) → suc j < i → at ω i ≡ at (set (set ω j x) (suc j) y) i
-      kept ω j i x y g = sym (lib.Seq.getD-set-other (set ω j x) (suc j) i y lib.Ieee.nan (λ e. omega arith) ∙ lib.Seq.getD-set-other ω j i x lib.Ieee.nan (λ e. omega arith))
+      kept ω j i x y g = sym (getD-set-other (set ω j x) (suc j) i y nan (λ e. omega arith) ∙ getD-set-other ω j i x nan (λ e. omega arith))
 
   untouched : (j : ℕ) (ω : List Float) → Partly n j ω → Partly n (suc j) ω
   untouched j ω r = record { long = r .long; each = r .each; after = λ i l g. r .after i l (omega arith) }

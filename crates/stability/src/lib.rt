@@ -1,6 +1,7 @@
 // The stability procedure of a line set (§2.6, §3.10): lines that stand too close are spread apart, and the outer ones kept off the ends.
 ghost use mathlib.Core.Path.{_≡_};
 ghost use mathlib.Core.Bool.{true, false};
+ghost use mathlib.Core.List.{map};
 ghost use lib.Ieee.Scale.{finite};
 ghost use Rattle.float.specs.Finite.{power, anyExceeds};
 ghost use Rattle.float.specs.Refusal.{all};
@@ -8,7 +9,7 @@ ghost use Rattle.quarter.specs.Quarter.{quarterTable};
 ghost use Rattle.stability.specs.Spacing.{spacing, outside};
 ghost use Rattle.stability.specs.Passes.{pass, settled};
 ghost use Rattle.stability.specs.Clamps.{margin, clamped};
-ghost use Rattle.stability.specs.Stability.{anglesOf, cosinesOf, stable, done, refusal, enforced};
+ghost use Rattle.stability.specs.Stability.{angleOf, cosineOf, stable, done, refusal, enforced};
 
 pub struct Stabilised {
     pub status: u32,
@@ -36,7 +37,7 @@ fn refused(status: u32) -> Stabilised
 // The angle of each cosine.
 fn angles_of(t: &[u32; 2049], cosines: [f32; 10]) -> [f32; 10]
     requires { ⌜ now t ≡ quarterTable ⌝ ∗ ⌜ all finite cosines ≡ true ⌝ }
-    ensures { λ r. ⌜ r ≡ anglesOf cosines ⌝ }
+    ensures { λ r. ⌜ r ≡ map angleOf cosines ⌝ }
 {
     let mut out = [0.0f32; 10];
     for i in 0..10 {
@@ -78,10 +79,9 @@ fn pass(angles: [f32; 10], delta: f32) -> Settled
 fn settle(angles: [f32; 10], delta: f32) -> Settled
     ensures { λ r. ⌜ r ≡ settled delta angles ⌝ }
 {
-    let mut s = Settled {
-        angles,
-        converged: false,
-    };
+    // before the first pass nothing has converged
+    let converged = false;
+    let mut s = Settled { angles, converged };
     for i in 0..10usize {
         let omega = s.angles;
         let t = pass(omega, delta);
@@ -119,7 +119,7 @@ fn clamp(angles: [f32; 10], delta: f32) -> [f32; 10]
 // The cosine of each angle.
 fn cosines_of(t: &[u32; 2049], angles: [f32; 10]) -> [f32; 10]
     requires { ⌜ now t ≡ quarterTable ⌝ ∗ ⌜ anyExceeds (power 4) angles ≡ false ⌝ }
-    ensures { λ r. ⌜ r ≡ cosinesOf angles ⌝ }
+    ensures { λ r. ⌜ r ≡ map cosineOf angles ⌝ }
 {
     let mut out = [0.0f32; 10];
     for i in 0..10 {
@@ -131,7 +131,7 @@ fn cosines_of(t: &[u32; 2049], angles: [f32; 10]) -> [f32; 10]
 // The procedure, for a set and a spacing that are not refused.
 fn stabilise(cosines: [f32; 10], hz: f32) -> Stabilised
     requires { ⌜ (all finite cosines ≡ true) × (finite hz ≡ true) × (outside hz ≡ false) ⌝ }
-    ensures { λ r. ⌜ r ≡ done (stable (spacing hz) (anglesOf cosines)) ⌝ }
+    ensures { λ r. ⌜ r ≡ done (stable (spacing hz) (map angleOf cosines)) ⌝ }
 {
     let t = quarter::entries();
     let delta = spacing(hz);

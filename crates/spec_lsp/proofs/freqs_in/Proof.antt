@@ -12,7 +12,7 @@ use Rattle.float.specs.Refusal.{all}
 use Rattle.float.proofs.All.{all-at}
 use Rattle.float.proofs.Table.{Filled, filled-none, filled-more, filled-all, map-table}
 use Rattle.cosine.specs.Step.{held, step, frequency}
-use Rattle.cosine.proofs.Held.{held-step}
+use Rattle.cosine.proofs.Held.{step-held}
 use Rattle.spec_lsp.specs.Convert.{freqOf}
 use Rattle.spec_lsp.proofs.freqs_in.Statement.{statement}
 use Rattle.spec_lsp.proofs.freqs_in.Tie as tie
@@ -28,7 +28,7 @@ abbrev μ-loop : tie.MeasureT-loop
 
 -- the step of a finite cosine is one of half a circle
 half : (cosines : List Float) (i k : ℕ) → all finite cosines ≡ true → i < length cosines → k ≡ step (held (getD cosines i nan)) → k ≤ 2 ^ 24
-half cosines i k h l e = subst (λ (n : ℕ). n ≤ 2 ^ 24) (sym e) (held-step (getD cosines i nan) (all-at finite cosines (subst T (sym h) tt) i nan l))
+half cosines i k h l e = subst (λ (n : ℕ). n ≤ 2 ^ 24) (sym e) (step-held (getD cosines i nan) (all-at finite cosines (subst T (sym h) tt) i nan l) .1)
 
 found : (x r : Float) (k : ℕ) → k ≡ step (held x) → r ≡ frequency k → r ≡ freqOf x
 found x r k e f = f ∙ ap frequency e

@@ -1,15 +1,15 @@
 -- `stability::enforce_lsp_stability` meets its contract: a refusal where one is due, else the procedure. Assumes nothing.
 use borrow.Author.Needs.{needs}
 use borrow.Author.Tests.{not-true, not-false}
-use mathlib.Core.Path.{_≡_, refl, sym, ap, _∙_, subst}
-use mathlib.Core.Bool.{Bool, true, false}
-use mathlib.Core.List.{List}
+use mathlib.Core.Path.{_≡_, sym, _∙_}
+use mathlib.Core.Bool.{true, false}
+use mathlib.Core.List.{List, map}
 use lib.Ieee.{Float, binary32, ofBits, round, lt}
 use lib.Ieee.Scale.{finite}
 use Rattle.float.specs.Refusal.{all}
 use Rattle.float.specs.Single.{single}
 use Rattle.stability.specs.Spacing.{spacing, outside}
-use Rattle.stability.specs.Stability.{anglesOf, stable, done, refusal, enforced}
+use Rattle.stability.specs.Stability.{angleOf, stable, done, refusal, enforced}
 use Rattle.stability.specs.declared.Stabilised.{Stabilised}
 use Rattle.stability.proofs.enforce_lsp_stability.Statement.{statement}
 use Rattle.stability.proofs.enforce_lsp_stability.Tie as tie
@@ -41,7 +41,7 @@ unfolding outside single round ofBits
 inside hz h k = rw (h, k)
 
 -- ---- the procedure
-answered : (c : List Float) (hz : Float) (r : Stabilised) → finite hz ≡ true → all finite c ≡ true → outside hz ≡ false → r ≡ done (stable (spacing hz) (anglesOf c)) → r ≡ enforced c hz
+answered : (c : List Float) (hz : Float) (r : Stabilised) → finite hz ≡ true → all finite c ≡ true → outside hz ≡ false → r ≡ done (stable (spacing hz) (map angleOf c)) → r ≡ enforced c hz
 unfolding enforced all
 answered c hz r h k l e = rw (h, k, l) e
 

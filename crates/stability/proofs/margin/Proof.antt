@@ -1,5 +1,4 @@
 -- `stability::margin` meets its contract. Assumes nothing.
-use mathlib.Core.Path.{refl}
 use lib.Ieee.{ofBits, round}
 use Rattle.float.specs.Single.{single}
 use Rattle.stability.specs.Spacing.{half}

@@ -1,13 +1,13 @@
 -- `stability::pass` meets its contract: after j turns the state is that of the first j pairs. Assumes nothing.
 use borrow.Author.Needs.{needs}
-use mathlib.Core.Path.{_≡_, refl, sym, ap, _∙_}
+use mathlib.Core.Path.{_≡_, _∙_}
 use mathlib.Core.Bool.{Bool, true, false, cond}
 use mathlib.Core.List.{List}
 use mathlib.Core.Logic.{⊎-elim}
-use Prim.Native.Nat.{ℕ, suc, _+_, _-_, _<_, zero-le}
+use Prim.Native.Nat.{ℕ, _+_, _-_, _<_, zero-le}
 use native.Mathlib.Numerals.{add-one}
-use lib.ListN.{getD, set}
-use lib.Ieee.{Float, nan, binary32, ofBits, round, lt}
+use lib.ListN.{set}
+use lib.Ieee.{Float, binary32, ofBits, round, lt}
 use Rattle.float.specs.Single.{_⊕_, _⊖_, _⊗_, single}
 use Rattle.float.specs.Vector.{at}
 use Rattle.float.proofs.Loop.{Went, went-none, went-more, went-all}

@@ -1,9 +1,9 @@
 -- `stability::settle` meets its contract: after i passes none has converged, and one that has ends them, since none follows it. Assumes nothing.
 use borrow.Author.Needs.{needs}
-use mathlib.Core.Path.{_≡_, refl, sym, ap, _∙_}
-use mathlib.Core.Bool.{Bool, true, false, cond}
+use mathlib.Core.Path.{_≡_, refl}
+use mathlib.Core.Bool.{true, false}
 use mathlib.Core.List.{List}
-use Prim.Native.Nat.{ℕ, _+_, _-_, _<_, _≤_, zero-le}
+use Prim.Native.Nat.{ℕ, _+_, _-_, _<_, zero-le}
 use lib.Ieee.{Float}
 use Rattle.float.proofs.Loop.{Went, went-none, went-more, went-still, went-all}
 use Rattle.stability.specs.Passes.{pass, next, settled}
@@ -15,10 +15,10 @@ abbrev After : Float → Settled → ℕ → Settled → Type 0
 After delta s₀ i s = Went 0 10 (λ k. next delta) s₀ i s
 
 abbrev Inv-loop : tie.InvT-loop
-Inv-loop delta s₀ i₀ s i = After delta s₀ i s × (s .converged ≡ false)
+Inv-loop delta converged s₀ i₀ s i = After delta s₀ i s × (s .converged ≡ false)
 
 abbrev μ-loop : tie.MeasureT-loop
-μ-loop delta s₀ i₀ s i = 10 - i
+μ-loop delta converged s₀ i₀ s i = 10 - i
 
 -- one pass more
 turn : (delta : Float) (s₀ s t : Settled) (i : ℕ) → i < 10 → t ≡ pass delta (s .angles) → After delta s₀ i s × (s .converged ≡ false) → After delta s₀ (i + 1) t
