@@ -5,3 +5,6 @@ pub mod Monotone
 pub mod Least
 pub mod Whole
 mod Halving
+mod Segment
+pub mod Order
+mod Below
