@@ -82,7 +82,7 @@ digits true m e h = (refl, some (m * up e) (0 * 1 * down e) (zero-mul (down e)) 
     some x y z l = omega arith
 digits false m e h = absurd (false≢true (below-zero (fin false m e) false (m * up e) (down e) (refl, refl) h))
 
-no-nan : lt nan zero-double ≡ true → ⊥
+pub no-nan : lt nan zero-double ≡ true → ⊥
 unfolding lt
 no-nan h = false≢true h
 

@@ -81,7 +81,7 @@ above-least test n u (suc d) lo h p q = go (above-least test n u d) (test (lo + 
 upward : (c : Float) → Upward (reached c) (2 ^ 24)
 upward c i j h l t = le-trans-any (cosine j) (cosine i) c (cosine-falls i j h l) t
 
-minus-one : HasValue (neg (single 1 1)) true 1 1
+pub minus-one : HasValue (neg (single 1 1)) true 1 1
 unfolding neg single lib.Ieee.round
 minus-one = (refl, refl)
 

@@ -8,3 +8,4 @@ mod Halving
 mod Segment
 pub mod Order
 mod Below
+mod Reach

@@ -134,13 +134,13 @@ pub fn step(t: &[u32; 2049], c: f32) -> u32
     ensures { λ r. ⌜ r ≡ step (held c) ⌝ }
 {
     let x = hold(c);
-    if 0.0 <= x {
-        return low_step(t, whole_part(x) / 16);
+    if x != x {
+        return 16777216;
     }
     if x < 0.0 {
         return 16777217 - low_step(t, whole_below(x) / 16);
     }
-    16777216
+    low_step(t, whole_part(x) / 16)
 }
 
 // The greatest whole number of steps no greater than a frequency of up to 65,536 in magnitude.
