@@ -1,6 +1,6 @@
 -- The greatest whole number below |x| × 2^46: the whole part, or one less where that is |x| × 2^46 itself. Assumes nothing.
 use mathlib.Core.Path.{_≡_, refl, sym, ap, _∙_, subst}
-use mathlib.Core.Bool.{Bool, true, false, not, false≢true, true≢false}
+use mathlib.Core.Bool.{Bool, true, false, not, false≢true}
 use Prim.Native.Nat.{ℕ, zero, suc, _+_, _-_, _*_, _/_, _^_, _≤_, _<_}
 use native.Mathlib.Nat.{add-mul, mul-one, one-mul, mul-pos, zero-mul, le-trans, mul-le-mul-right, div-mul-le-self, lt-div-mul-add, div-eq-of-lt-le}
 use native.Mathlib.Numerals.{add-one}
@@ -19,7 +19,6 @@ use Rattle.float.proofs.Order.{le-values}
 use Rattle.cosine.specs.Step.{wholePart}
 use Rattle.cosine.specs.Search.{wholeBelow}
 use Rattle.cosine.proofs.Order.{values-le}
-use Rattle.cosine.proofs.Least.{clash}
 use Rattle.cosine.proofs.Whole.{scale, below-zero, neg-value, up46, zero-double, whole-le}
 
 -- ---- in whole numbers

@@ -3,14 +3,13 @@ use mathlib.Core.Path.{_≡_, refl, sym, ap, _∙_, subst}
 use mathlib.Core.Bool.{Bool, true, false, not, cond, _||_, true≢false, false≢true}
 use Prim.Native.Nat.{ℕ, zero, suc, _+_, _-_, _*_, _/_, _^_, _≤_, _<_}
 use native.Mathlib.Numerals.{add-one}
-use native.Mathlib.Nat.{two-pow-succ, lt-irrefl, lt-of-le-of-lt, le-of-lt, lt-suc-self, div-lt-iff-lt-mul, mul-one, one-mul, mul-comm, mul-assoc, mul-pos, zero-mul, le-trans, le-of-eq, mul-le-mul-right, mul-div-mul-right, div-div-eq-div-mul, le-div-iff-mul-le}
+use native.Mathlib.Nat.{two-pow-succ, lt-irrefl, lt-of-le-of-lt, le-of-lt, lt-suc-self, div-lt-iff-lt-mul, mul-one, mul-comm, mul-assoc, mul-pos, le-trans, mul-div-mul-right, div-div-eq-div-mul, le-div-iff-mul-le}
 use native.Mathlib.Omega.{arith}
-use lib.Dec.{T, leb, leb→le, nleb→lt, lit<, lit≤}
+use lib.Dec.{T, leb, leb→le, nleb→lt, lit<}
 use lib.Pow.{pow-pos}
-use lib.IntN.{ℤ, pos}
+use lib.IntN.{ℤ}
 use lib.Ieee.{Float, nan, inf, fin, up, down, lt, eq, le, ne, neg}
 use lib.Ieee.Compare.{differs-from-itself, nan-differs}
-use lib.Ieee.Exact.{HasValue}
 use lib.Ieee.Fits.{down-pos}
 use borrow.Author.Tests.{ltb-false}
 use Rattle.float.specs.Single.{single}

@@ -1,15 +1,14 @@
 -- The search for the least step up to the quarter circle whose blend is no greater than n: first between which two entries n lies, then how many steps after the first of them. Assumes nothing.
-use mathlib.Core.Path.{_≡_, refl, sym, ap, _∙_, subst}
+use mathlib.Core.Path.{_≡_, sym, ap, _∙_, subst}
 use mathlib.Core.Bool.{Bool, false, not}
-use Prim.Native.Nat.{ℕ, zero, suc, _+_, _-_, _*_, _/_, _^_, _≤_, _<_}
+use Prim.Native.Nat.{ℕ, suc, _+_, _-_, _*_, _/_, _^_, _≤_, _<_}
 use native.Mathlib.Nat.{mul-add, add-mul, le-trans, lt-of-lt-of-le, not-suc-le-zero, lt-mul-div-succ, mul-div-le, div-lt-iff-lt-mul}
 use native.Mathlib.Omega.{arith}
-use lib.Dec.{T, leb, leb→le, le→leb, nleb→lt, lit≤}
+use lib.Dec.{T, leb→le, le→leb, nleb→lt, lit≤}
 use borrow.Author.Tests.{lt-leb}
 use native.Mathlib.Numerals.{add-one}
 use Rattle.quarter.specs.Quarter.{quarter}
 use Rattle.quarter.proofs.Fall.{first, last, fall, monotone, at-most}
-use Rattle.cosine.specs.Cosine.{low}
 use Rattle.cosine.specs.Step.{above}
 use Rattle.cosine.specs.Search.{entryWithin, LowStep}
 use Rattle.cosine.proofs.Blend.{low-between, low-monotone, low-le}

@@ -1,8 +1,8 @@
 -- `cosine::whole_below` meets its contract: the comparison tells whether the whole part is all there is. Assumes nothing.
 use borrow.Author.Needs.{needs}
 use mathlib.Core.Path.{_≡_, sym, ap, _∙_}
-use mathlib.Core.Bool.{Bool, true, false}
-use Prim.Native.Nat.{ℕ, _-_, _^_, _≤_}
+use mathlib.Core.Bool.{Bool, false}
+use Prim.Native.Nat.{ℕ, _^_}
 use native.Mathlib.Nat.{le-trans, le-of-eq}
 use lib.Dec.{T, lit≤, le→leb}
 use lib.IntN.{pos}
