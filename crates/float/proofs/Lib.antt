@@ -14,3 +14,4 @@ pub mod Units
 pub mod Patterns
 mod Narrowing
 mod Signs
+pub mod Pattern
