@@ -20,3 +20,4 @@ pub mod Patterns
 mod Narrowing
 mod Signs
 pub mod Blocks
+pub mod Pattern
