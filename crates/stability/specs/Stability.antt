@@ -36,8 +36,8 @@ done s = record { status = 0; cosines = map cosineOf (s .angles); converged = s 
 abbrev pub refusal : ℕ → Stabilised
 refusal n = record { status = n; cosines = zeros 10; converged = false }
 
-unfoldable pub enforceLspStability : List Float → Float → Stabilised
-enforceLspStability c hz =
+unfoldable pub enforced : List Float → Float → Stabilised
+enforced c hz =
     answer (first ((5, notFinite (hz ∷ c)) ∷ (6, outside hz) ∷ []))
     refusal
     (done (stable (spacing hz) (map angleOf c)))

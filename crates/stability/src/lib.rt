@@ -9,7 +9,7 @@ ghost use Rattle.quarter.specs.Quarter.{quarterTable};
 ghost use Rattle.stability.specs.Spacing.{spacing, outside};
 ghost use Rattle.stability.specs.Passes.{pass, settled};
 ghost use Rattle.stability.specs.Clamps.{margin, clamped};
-ghost use Rattle.stability.specs.Stability.{angleOf, cosineOf, stable, done, refusal, enforceLspStability};
+ghost use Rattle.stability.specs.Stability.{angleOf, cosineOf, stable, done, refusal, enforced};
 
 pub struct Stabilised {
     pub status: u32,
@@ -149,7 +149,7 @@ fn stabilise(cosines: [f32; 10], hz: f32) -> Stabilised
 
 // Lines at least a spacing apart, where at most ten passes reach it; `converged` tells that a pass met no pair too close.
 pub fn enforce_lsp_stability(cosines: [f32; 10], spacing_hz: f32) -> Stabilised
-    ensures { λ r. ⌜ r ≡ enforceLspStability cosines «spacing_hz» ⌝ }
+    ensures { λ r. ⌜ r ≡ enforced cosines «spacing_hz» ⌝ }
 {
     if !float::is_finite(spacing_hz) {
         return refused(5);

@@ -9,22 +9,22 @@ use lib.Ieee.Scale.{finite}
 use Rattle.float.specs.Refusal.{all}
 use Rattle.float.specs.Single.{single}
 use Rattle.stability.specs.Spacing.{spacing, outside}
-use Rattle.stability.specs.Stability.{angleOf, stable, done, refusal, enforceLspStability}
+use Rattle.stability.specs.Stability.{angleOf, stable, done, refusal, enforced}
 use Rattle.stability.specs.declared.Stabilised.{Stabilised}
 use Rattle.stability.proofs.enforce_lsp_stability.Statement.{statement}
 use Rattle.stability.proofs.enforce_lsp_stability.Tie as tie
 
 -- ---- refusals
-five : (c : List Float) (hz : Float) → finite hz ≡ false → refusal 5 ≡ enforceLspStability c hz
-unfolding enforceLspStability all
+five : (c : List Float) (hz : Float) → finite hz ≡ false → refusal 5 ≡ enforced c hz
+unfolding enforced all
 five c hz h = rw h
 
-five-cosines : (c : List Float) (hz : Float) → finite hz ≡ true → all finite c ≡ false → refusal 5 ≡ enforceLspStability c hz
-unfolding enforceLspStability all
+five-cosines : (c : List Float) (hz : Float) → finite hz ≡ true → all finite c ≡ false → refusal 5 ≡ enforced c hz
+unfolding enforced all
 five-cosines c hz h k = rw (h, k)
 
-six : (c : List Float) (hz : Float) → finite hz ≡ true → all finite c ≡ true → outside hz ≡ true → refusal 6 ≡ enforceLspStability c hz
-unfolding enforceLspStability all
+six : (c : List Float) (hz : Float) → finite hz ≡ true → all finite c ≡ true → outside hz ≡ true → refusal 6 ≡ enforced c hz
+unfolding enforced all
 six c hz h k l = rw (h, k, l)
 
 -- the two tests of the spacing, as the code writes them
@@ -41,8 +41,8 @@ unfolding outside single round ofBits
 inside hz h k = rw (h, k)
 
 -- ---- the procedure
-answered : (c : List Float) (hz : Float) (r : Stabilised) → finite hz ≡ true → all finite c ≡ true → outside hz ≡ false → r ≡ done (stable (spacing hz) (map angleOf c)) → r ≡ enforceLspStability c hz
-unfolding enforceLspStability all
+answered : (c : List Float) (hz : Float) (r : Stabilised) → finite hz ≡ true → all finite c ≡ true → outside hz ≡ false → r ≡ done (stable (spacing hz) (map angleOf c)) → r ≡ enforced c hz
+unfolding enforced all
 answered c hz r h k l e = rw (h, k, l) e
 
 pub enforce-lsp-stability-spec : {M : Type 1} → statement M
