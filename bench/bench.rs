@@ -47,7 +47,13 @@ fn main() {
     let seed = args.value("--seed").unwrap_or(1u64);
     let counts: Option<PathBuf> = args.value("--counts");
     let list = args.flag("--list");
-    let calls = args.flag("--calls").then(|| (args.word(), args.word(), args.word().and_then(|n| n.parse::<usize>().ok())));
+    let calls = args.flag("--calls").then(|| {
+        (
+            args.word(),
+            args.word(),
+            args.word().and_then(|n| n.parse::<usize>().ok()),
+        )
+    });
     args.end();
     if list {
         landed().for_each(|name| println!("{name}"));
@@ -55,12 +61,18 @@ fn main() {
     }
     let both = oracle::rust().unwrap_or_else(|why| fail(&format!("nothing to time: {why}")));
     if !LIBRARY {
-        fail(&format!("nothing to time: there is no library at {LIBRARY_PATH}"));
+        fail(&format!(
+            "nothing to time: there is no library at {LIBRARY_PATH}"
+        ));
     }
     let mut pairs = pairs(both.published, seed);
     if let Some(call) = calls {
-        let (Some(name), Some(side), Some(n)) = call else { fail("--calls NAME rust|ours N") };
-        let Some(pair) = pairs.iter_mut().find(|pair| pair.name == name) else { fail(&format!("there is no function {name}")) };
+        let (Some(name), Some(side), Some(n)) = call else {
+            fail("--calls NAME rust|ours N")
+        };
+        let Some(pair) = pairs.iter_mut().find(|pair| pair.name == name) else {
+            fail(&format!("there is no function {name}"))
+        };
         let run = match side.as_str() {
             "rust" => &mut pair.rust,
             "ours" => &mut pair.ours,
@@ -71,9 +83,16 @@ fn main() {
     }
     let counted = counts.map(|path| counted(&path)).unwrap_or_default();
     println!("| function | Rust | ours | ours / Rust | instructions, Rust | ours | ours / Rust |\n|---|---|---|---|---|---|---|");
-    for pair in pairs.iter_mut().filter(|pair| only.as_deref().is_none_or(|name| name == pair.name)) {
+    for pair in pairs
+        .iter_mut()
+        .filter(|pair| only.as_deref().is_none_or(|name| name == pair.name))
+    {
         let (rust, ours) = times(pair, batches);
-        let count = |side: &str| counted.get(&(pair.name.to_string(), side.to_string())).copied();
+        let count = |side: &str| {
+            counted
+                .get(&(pair.name.to_string(), side.to_string()))
+                .copied()
+        };
         let (left, right) = (count("rust"), count("ours"));
         let shown = |n: Option<f64>| n.map_or("–".to_string(), |n| format!("{n:.0}"));
         let share = match (left, right) {
@@ -91,16 +110,23 @@ fn main() {
 }
 
 fn landed() -> impl Iterator<Item = &'static str> {
-    OPERATIONS.iter().filter(|operation| operation.landed()).map(|operation| operation.name)
+    OPERATIONS
+        .iter()
+        .filter(|operation| operation.landed())
+        .map(|operation| operation.name)
 }
 
 /// Instruction counts by function and side.
 fn counted(path: &PathBuf) -> BTreeMap<(String, String), f64> {
-    let text = fs::read_to_string(path).unwrap_or_else(|e| fail(&format!("{}: {e}", path.display())));
+    let text =
+        fs::read_to_string(path).unwrap_or_else(|e| fail(&format!("{}: {e}", path.display())));
     let mut all = BTreeMap::new();
     for line in text.lines() {
         if let [name, side, count] = line.split_whitespace().collect::<Vec<_>>()[..] {
-            all.insert((name.to_string(), side.to_string()), count.parse().unwrap_or(f64::NAN));
+            all.insert(
+                (name.to_string(), side.to_string()),
+                count.parse().unwrap_or(f64::NAN),
+            );
         }
     }
     all
@@ -139,7 +165,10 @@ fn drawn<T>(random: &mut Random, draw: impl Fn(&mut Random) -> T) -> Vec<T> {
 
 /// Speech at the level of 16-bit samples.
 fn speech(random: &mut Random, n: usize) -> Vec<f32> {
-    inputs::speech(random, n).into_iter().map(|x| (8_000.0 * x).round() as f32).collect()
+    inputs::speech(random, n)
+        .into_iter()
+        .map(|x| (8_000.0 * x).round() as f32)
+        .collect()
 }
 
 fn sixty(random: &mut Random) -> [f32; 60] {
@@ -149,7 +178,9 @@ fn sixty(random: &mut Random) -> [f32; 60] {
 
 /// The functions that have landed, each on inputs of its own, the same for both sides.
 fn pairs(rust: Rust, seed: u64) -> Vec<Pair> {
-    landed().map(|name| pair(name, &rust, &mut Random::new(seed, 0, 0))).collect()
+    landed()
+        .map(|name| pair(name, &rust, &mut Random::new(seed, 0, 0)))
+        .collect()
 }
 
 fn pair(name: &'static str, rust: &Rust, random: &mut Random) -> Pair {
@@ -180,7 +211,13 @@ fn pair(name: &'static str, rust: &Rust, random: &mut Random) -> Pair {
             drawn(random, |r| speech(r, 180)),
             |x| lpc_analysis(x),
             ([0f32; 11], [0f64; 11], 0f32),
-            |x, o| g7231_lpc_analysis(x.as_ptr(), x.len(), o.0.as_mut_ptr(), o.1.as_mut_ptr(), &mut o.2)
+            |x, o| g7231_lpc_analysis(
+                x.as_ptr(),
+                x.len(),
+                o.0.as_mut_ptr(),
+                o.1.as_mut_ptr(),
+                &mut o.2
+            )
         ),
         "lpc_to_lsp" => pair!(
             lpc_to_lsp,
@@ -226,7 +263,11 @@ fn pair(name: &'static str, rust: &Rust, random: &mut Random) -> Pair {
         ),
         "interpolate_lsp" => pair!(
             interpolate_lsp,
-            drawn(random, |r| (r.below(4), inputs::cosines(r), inputs::cosines(r))),
+            drawn(random, |r| (
+                r.below(4),
+                inputs::cosines(r),
+                inputs::cosines(r)
+            )),
             |x| interpolate_lsp(x.0, &x.1, &x.2),
             [0f32; 10],
             |x, o| g7231_interpolate_lsp(x.0, x.1.as_ptr(), x.2.as_ptr(), o.as_mut_ptr())
@@ -273,19 +314,43 @@ fn pair(name: &'static str, rust: &Rust, random: &mut Random) -> Pair {
         ),
         "harmonic_noise_shaping" => pair!(
             harmonic_noise_shaping,
-            drawn(random, |r| (speech(r, 385), 145 + 60 * r.below(4), 18 + r.below(125) as u32)),
+            drawn(random, |r| (
+                speech(r, 385),
+                145 + 60 * r.below(4),
+                18 + r.below(125) as u32
+            )),
             |x| harmonic_noise_shaping(&x.0, x.1, x.2 as i32),
             (0u32, 0f32),
-            |x, o| g7231_harmonic_noise_shaping(x.0.as_ptr(), x.0.len(), x.1, x.2, &mut o.0, &mut o.1)
+            |x, o| g7231_harmonic_noise_shaping(
+                x.0.as_ptr(),
+                x.0.len(),
+                x.1,
+                x.2,
+                &mut o.0,
+                &mut o.1
+            )
         ),
         "run_combined" => pair!(
             run_combined,
-            drawn(random, |r| (sixty(r), inputs::filter(r), inputs::taps(r), 18 + r.below(128) as u32)),
+            drawn(random, |r| (
+                sixty(r),
+                inputs::filter(r),
+                inputs::taps(r),
+                18 + r.below(128) as u32
+            )),
             |x| {
-                let memory = Memory { syn: [0.5; 10], wz: [0.5; 10], wp: [0.5; 10], p_hist: [0.5; 145] };
+                let memory = Memory {
+                    syn: [0.5; 10],
+                    wz: [0.5; 10],
+                    wp: [0.5; 10],
+                    p_hist: [0.5; 145],
+                };
                 run_combined(memory, &x.0, &x.1, &x.2 .0, &x.2 .1, x.3 as i32, 0.25)
             },
-            (([0f32; 10], [0f32; 10], [0f32; 10], [0f32; 145]), [0f32; 60]),
+            (
+                ([0f32; 10], [0f32; 10], [0f32; 10], [0f32; 145]),
+                [0f32; 60]
+            ),
             |x, o| {
                 o.0 = ([0.5; 10], [0.5; 10], [0.5; 10], [0.5; 145]);
                 let (syn, wz_mem, wp_mem, p_hist) = &mut o.0;
@@ -307,12 +372,23 @@ fn pair(name: &'static str, rust: &Rust, random: &mut Random) -> Pair {
         ),
         "combined_impulse_response" => pair!(
             combined_impulse_response,
-            drawn(random, |r| (inputs::filter(r), inputs::taps(r), 18 + r.below(128) as u32)),
+            drawn(random, |r| (
+                inputs::filter(r),
+                inputs::taps(r),
+                18 + r.below(128) as u32
+            )),
             |x| combined_impulse_response(&x.0, &x.1 .0, &x.1 .1, x.2 as i32, 0.25),
             [0f32; 60],
             |x, o| {
                 let (wz, wp) = &x.1;
-                g7231_combined_impulse_response(x.0.as_ptr(), wz.as_ptr(), wp.as_ptr(), x.2, 0.25, o.as_mut_ptr())
+                g7231_combined_impulse_response(
+                    x.0.as_ptr(),
+                    wz.as_ptr(),
+                    wp.as_ptr(),
+                    x.2,
+                    0.25,
+                    o.as_mut_ptr(),
+                )
             }
         ),
         _ => fail(&format!("no inputs for {name}")),

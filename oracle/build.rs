@@ -85,11 +85,7 @@ const CALLS: [Call; 6] = [
         old: "lsp_cos[i].clamp(-1.0, 1.0).acos()",
         new: "crate::rule::angle_of_cosine(lsp_cos[i].clamp(-1.0, 1.0))",
     },
-    Call {
-        item: "fn enforce_lsp_stability",
-        old: "omega[i].cos()",
-        new: "crate::rule::cosine_of_angle(omega[i])",
-    },
+    Call { item: "fn enforce_lsp_stability", old: "omega[i].cos()", new: "crate::rule::cosine_of_angle(omega[i])" },
     Call {
         item: "fn harmonic_noise_shaping",
         old: "-10.0 * (1.0 - ratio).log10() >= 2.0",
@@ -154,7 +150,8 @@ fn doors(top: &Path, facts: &mut String) {
     if header.matches("uint32_t g7231_").count() != listed {
         fail(&format!("{}: it has a function that is none of the fifteen", path.display()));
     }
-    *facts += &format!("/// Which of the fifteen doors stand in the header.\npub const LANDED: [bool; 15] = {landed:?};\n");
+    *facts +=
+        &format!("/// Which of the fifteen doors stand in the header.\npub const LANDED: [bool; 15] = {landed:?};\n");
 }
 
 /// C text with no comment and single spaces.
@@ -184,7 +181,10 @@ fn library(top: &Path, facts: &mut String) {
         println!("cargo::rustc-link-arg={}", path.display());
     }
     *facts += &format!("/// Whether the programs are linked with the library.\npub const LIBRARY: bool = {there};\n");
-    *facts += &format!("/// Where the library was looked for.\npub const LIBRARY_PATH: &str = {:?};\n", path.display().to_string());
+    *facts += &format!(
+        "/// Where the library was looked for.\npub const LIBRARY_PATH: &str = {:?};\n",
+        path.display().to_string()
+    );
 }
 
 /// Writes the modules `tables`, `spec_tables`, `published` and `ruled`, where the Rust's source is.
@@ -196,7 +196,10 @@ fn rust(top: &Path, here: &Path, out: &Path, facts: &mut String) {
     if named && !there {
         fail(&format!("G7231_RUST names {}, which has no src/encoder.rs", folder.display()));
     }
-    *facts += &format!("/// Where the Rust's source was looked for.\npub const RUST_PATH: &str = {:?};\n", folder.display().to_string());
+    *facts += &format!(
+        "/// Where the Rust's source was looked for.\npub const RUST_PATH: &str = {:?};\n",
+        folder.display().to_string()
+    );
     if !there {
         return;
     }

@@ -38,12 +38,44 @@ fn limits() -> &'static [u32] {
         let mut list = Vec::new();
         // Infinity, NaNs quiet and signalling with and without a payload, the largest and the smallest.
         let patterns = [
-            0x7f80_0000, 0x7fc0_0000, 0x7f80_0001, 0x7fa0_0000, 0x7fbf_ffff, 0x7fc1_2345, 0x7fff_ffff, 0x7f7f_ffff,
-            0x7f7f_fffe, 0, 1, 2, 0x007f_ffff, 0x0080_0000, 0x0080_0001,
+            0x7f80_0000,
+            0x7fc0_0000,
+            0x7f80_0001,
+            0x7fa0_0000,
+            0x7fbf_ffff,
+            0x7fc1_2345,
+            0x7fff_ffff,
+            0x7f7f_ffff,
+            0x7f7f_fffe,
+            0,
+            1,
+            2,
+            0x007f_ffff,
+            0x0080_0000,
+            0x0080_0001,
         ];
         let values = [
-            1.0, 0.999, 0.5, 2.0, 3.0 / 1024.0, 1.0 / 512.0, 1.0 / 1024.0, 31.25, 62.5, 400.0, 16_384.0, 32_767.0,
-            32_768.0, 49_152.0, 65_536.0, 131_072.0, 16_777_216.0, 33_554_432.0, 1e-20, 1e19, 1.8446744e19,
+            1.0,
+            0.999,
+            0.5,
+            2.0,
+            3.0 / 1024.0,
+            1.0 / 512.0,
+            1.0 / 1024.0,
+            31.25,
+            62.5,
+            400.0,
+            16_384.0,
+            32_767.0,
+            32_768.0,
+            49_152.0,
+            65_536.0,
+            131_072.0,
+            16_777_216.0,
+            33_554_432.0,
+            1e-20,
+            1e19,
+            1.8446744e19,
         ];
         let near = values.map(f32::to_bits).into_iter().flat_map(|at| [at - 1, at, at + 1]);
         for pattern in patterns.into_iter().chain(near) {
@@ -55,9 +87,45 @@ fn limits() -> &'static [u32] {
 
 /// Machine words at and next to every bound, and such as would wrap or be cut to a small one.
 const WORD_LIMITS: [u64; 40] = [
-    0, 1, 2, 3, 4, 17, 18, 19, 59, 60, 61, 84, 85, 141, 142, 143, 144, 145, 146, 204, 205, 206, 265, 324, 325, 326, 385,
-    0x7fff_ffff, 0x8000_0000, 0xffff_ffff, 0x1_0000_0000, 0x1_0000_0001, 0x1_0000_0091, 0x7fff_ffff_ffff_ffff,
-    0x8000_0000_0000_0000, 0x8000_0000_0000_0001, 0xffff_ffff_ffff_ff00, 0xffff_ffff_ffff_ffc4, 0xffff_ffff_ffff_fffe,
+    0,
+    1,
+    2,
+    3,
+    4,
+    17,
+    18,
+    19,
+    59,
+    60,
+    61,
+    84,
+    85,
+    141,
+    142,
+    143,
+    144,
+    145,
+    146,
+    204,
+    205,
+    206,
+    265,
+    324,
+    325,
+    326,
+    385,
+    0x7fff_ffff,
+    0x8000_0000,
+    0xffff_ffff,
+    0x1_0000_0000,
+    0x1_0000_0001,
+    0x1_0000_0091,
+    0x7fff_ffff_ffff_ffff,
+    0x8000_0000_0000_0000,
+    0x8000_0000_0000_0001,
+    0xffff_ffff_ffff_ff00,
+    0xffff_ffff_ffff_ffc4,
+    0xffff_ffff_ffff_fffe,
     0xffff_ffff_ffff_ffff,
 ];
 
@@ -170,7 +238,15 @@ fn banded(random: &mut Random, low: u32, high: u32) -> u32 {
 /// Every single of a likely input replaced by random bits: any at all, or with exponents in one band.
 fn random_bits(operation: &Operation, random: &mut Random) -> Parts {
     let mut parts = (operation.realistic)(random);
-    let band = *random.pick(&[None, Some((0, 254)), Some((0, 142)), Some((100, 142)), Some((100, 126)), Some((120, 130)), Some((0, 3))]);
+    let band = *random.pick(&[
+        None,
+        Some((0, 254)),
+        Some((0, 142)),
+        Some((100, 142)),
+        Some((100, 126)),
+        Some((120, 130)),
+        Some((0, 3)),
+    ]);
     for (field, part) in operation.takes.iter().zip(&mut parts) {
         if is_single(field) {
             for word in part.iter_mut() {
@@ -196,7 +272,13 @@ pub fn draw(operation: &Operation, random: &mut Random, turn: u64) -> Vec<u32> {
             1 => random_bits(operation, random),
             2 => damaged(operation, random),
             3 => (operation.special)(random, turn / 5),
-            _ => if random.once_in(2) { (operation.realistic)(random) } else { random_bits(operation, random) },
+            _ => {
+                if random.once_in(2) {
+                    (operation.realistic)(random)
+                } else {
+                    random_bits(operation, random)
+                }
+            }
         }
     };
     joined(operation.takes, &parts)
@@ -264,7 +346,10 @@ pub fn filter(random: &mut Random) -> [f32; 11] {
 /// Its weighting taps, near enough.
 pub fn taps(random: &mut Random) -> ([f32; 10], [f32; 10]) {
     let a = filter(random);
-    (std::array::from_fn(|k| a[k + 1] * 0.9f32.powi(k as i32 + 1)), std::array::from_fn(|k| a[k + 1] * 0.5f32.powi(k as i32 + 1)))
+    (
+        std::array::from_fn(|k| a[k + 1] * 0.9f32.powi(k as i32 + 1)),
+        std::array::from_fn(|k| a[k + 1] * 0.5f32.powi(k as i32 + 1)),
+    )
 }
 
 /// Pulses at a pitch lag, and noise, through three resonators.
@@ -336,14 +421,26 @@ pub fn lpc_analysis(random: &mut Random) -> Parts {
 /// Windows whose prediction error all but vanishes: tones, steps, alternation, one sample.
 pub fn lpc_analysis_special(random: &mut Random, _: u64) -> Parts {
     let scale = 2f32.powi(random.below(200) as i32 - 140);
-    let pace = *random.pick(&[0.0, PI, PI / 2.0, PI / 3.0, 0.01, 1e-4, 3.14]);
+    let pace = *random.pick(&[0.0, PI, PI / 2.0, PI / 3.0, 0.01, 1e-4, 3.1]);
     let one = random.below(180);
     let shape = random.below(3);
     let window: Vec<f32> = (0..180)
         .map(|t| match shape {
             0 => ((pace * t as f64).cos() as f32) * scale,
-            1 => if t == one { scale } else { 0.0 },
-            _ => if t >= one { scale } else { -scale },
+            1 => {
+                if t == one {
+                    scale
+                } else {
+                    0.0
+                }
+            }
+            _ => {
+                if t >= one {
+                    scale
+                } else {
+                    -scale
+                }
+            }
         })
         .collect();
     vec![bits(&window)]
@@ -443,28 +540,93 @@ pub fn quantise_lsp_freq(random: &mut Random) -> Parts {
     vec![bits(&ordered(random)), bits(&decoded(random))]
 }
 
-/// Sets midway between two rows of each band, so that errors tie, and sets that a row meets exactly.
+/// Sets that a row meets exactly, sets midway between two rows of each band, so that errors tie, and sets about as far
+/// from one row as from another, so that a single rounding decides.
 #[cfg(rust)]
 pub fn quantise_lsp_freq_special(random: &mut Random, turn: u64) -> Parts {
-    use crate::spec_tables::{lsp_codebook_entry, LspBand};
+    use crate::spec_tables::LspBand;
     let dc = resting();
-    if turn % 3 == 0 {
+    if turn % 4 == 0 {
         let prev = decoded(random);
         let p = crate::published::spec_lsp::decode_lsp_freq(random.bits(), &prev);
         return vec![bits(&p), bits(&prev)];
     }
     let mut p = dc;
-    for band in LspBand::ALL {
+    let neighbours = LspBand::ALL.map(|band| neighbours(random, band));
+    for (band, (row, near)) in LspBand::ALL.into_iter().zip(neighbours) {
         let (start, length) = band.start_and_length();
-        let row = lsp_codebook_entry(band, random.bits() as u8);
-        let far = |other: &[i16]| -> i64 { (0..length).map(|j| (row[j] as i64 - other[j] as i64).pow(2)).sum() };
-        let others = (0..=255).map(|i| lsp_codebook_entry(band, i)).filter(|other| far(other) > 0);
-        let near = others.min_by_key(|other| far(other)).unwrap_or(row);
         for j in 0..length {
             p[start + j] += (row[j] as f32 + near[j] as f32) / 2.0;
         }
     }
+    if turn % 4 != 1 {
+        let m = random.below(3);
+        p = equally_far(random, p, LspBand::ALL[m], neighbours[m]);
+    }
     vec![bits(&p), bits(&dc)]
+}
+
+/// A row of a band and the nearest other one.
+#[cfg(rust)]
+fn neighbours(random: &mut Random, band: crate::spec_tables::LspBand) -> (&'static [i16], &'static [i16]) {
+    let rows = || (0..=255).map(|i| crate::spec_tables::lsp_codebook_entry(band, i));
+    let row = crate::spec_tables::lsp_codebook_entry(band, random.bits() as u8);
+    let far = |other: &[i16]| -> i64 { row.iter().zip(other).map(|(a, b)| (*a as i64 - *b as i64).pow(2)).sum() };
+    (row, rows().filter(|other| far(other) > 0).min_by_key(|other| far(other)).unwrap_or(row))
+}
+
+/// Moves a set off the midpoint of two rows of a band to where its weighted errors are about the same, but no longer
+/// mirror images of each other.
+#[cfg(rust)]
+fn equally_far(
+    random: &mut Random,
+    p: [f32; 10],
+    band: crate::spec_tables::LspBand,
+    rows: (&[i16], &[i16]),
+) -> [f32; 10] {
+    let (start, length) = band.start_and_length();
+    let dc = resting().map(f64::from);
+    let mut p = p.map(f64::from);
+    let widest = (0..length).max_by_key(|j| (rows.0[*j] as i32 - rows.1[*j] as i32).abs()).unwrap_or(0);
+    for j in 0..length {
+        let apart = (rows.0[j] as f64 - rows.1[j] as f64).abs() + 20.0;
+        p[start + j] += random.between(-0.3, 0.3) * apart;
+    }
+    let difference = |p: &[f64; 10]| -> f64 {
+        let error = |row: &[i16]| -> f64 {
+            (0..length)
+                .map(|j| {
+                    let i = start + j;
+                    let below = if i > 0 { p[i] - p[i - 1] } else { f64::INFINITY };
+                    let above = if i < 9 { p[i + 1] - p[i] } else { f64::INFINITY };
+                    (p[i] - dc[i] - row[j] as f64).powi(2) / below.min(above).max(1.0)
+                })
+                .sum()
+        };
+        error(rows.0) - error(rows.1)
+    };
+    let at = start + widest;
+    let mut before = (p[at] + 1.0, 0.0);
+    for _ in 0..12 {
+        let here = p[at];
+        p[at] = before.0;
+        before.1 = difference(&p);
+        p[at] = here;
+        let now = difference(&p);
+        if now == before.1 {
+            break;
+        }
+        let next = here - now * (here - before.0) / (now - before.1);
+        before = (here, now);
+        if !(next - here).is_finite() || (next - here).abs() > 500.0 {
+            break;
+        }
+        p[at] = next;
+    }
+    let mut p = p.map(|f| f as f32);
+    let steps = random.below(5) as i32 - 2;
+    p[at] = f32::from_bits(p[at].to_bits().wrapping_add_signed(steps));
+    p
 }
 
 #[cfg(not(rust))]
@@ -521,7 +683,13 @@ pub fn interpolate_lsp(random: &mut Random) -> Parts {
 
 /// Zeros of both signs against values that a choice above 2 may not copy.
 pub fn interpolate_lsp_special(random: &mut Random, _: u64) -> Parts {
-    let mut set = || -> Vec<u32> { (0..10).map(|_| *random.pick(&[0, 0x8000_0000, 1, 0x8000_0001, 0x3f80_0000, 0xbf80_0000, 0x7f7f_ffff, 0xff7f_ffff])).collect() };
+    let mut set = || -> Vec<u32> {
+        (0..10)
+            .map(|_| {
+                *random.pick(&[0, 0x8000_0000, 1, 0x8000_0001, 0x3f80_0000, 0xbf80_0000, 0x7f7f_ffff, 0xff7f_ffff])
+            })
+            .collect()
+    };
     let (prev, cur) = (set(), set());
     vec![word(*random.pick(&[0, 1, 2, 3, 4, 5, usize::MAX, 1 << 32])), prev, cur]
 }
@@ -560,7 +728,13 @@ pub fn weight_subframe(random: &mut Random) -> Parts {
 pub fn weight_subframe_special(random: &mut Random, _: u64) -> Parts {
     let (wz, wp) = taps(random);
     let growth = *random.pick(&[1.0, 3.0, 30.0, 1e4]);
-    vec![bits(&sparse(random, 60)), bits(&wz), bits(&wp.map(|w| w * growth)), memory::<10>(random), bits(&sparse(random, 10))]
+    vec![
+        bits(&sparse(random, 60)),
+        bits(&wz),
+        bits(&wp.map(|w| w * growth)),
+        memory::<10>(random),
+        bits(&sparse(random, 10)),
+    ]
 }
 
 pub fn open_loop_pitch(random: &mut Random) -> Parts {
@@ -569,18 +743,37 @@ pub fn open_loop_pitch(random: &mut Random) -> Parts {
     vec![bits(&signal(random, 265 + 120 * half + extra)), word(half)]
 }
 
-/// Small whole numbers, so that ratios tie or stand at the factor exactly; bad samples where none is looked at.
+/// Small whole numbers, so that ratios tie; two lags whose ratios stand in the factor of 1.25 dB or tie, all but a
+/// rounding; bad samples where none is looked at.
 pub fn open_loop_pitch_special(random: &mut Random, turn: u64) -> Parts {
     let half = random.below(2);
     let end = 265 + 120 * half;
     let mut wbuf = sparse(random, end + 10);
-    match turn % 4 {
+    match turn % 6 {
         0 => wbuf[end + random.below(10)] = f32::NAN,
         1 => wbuf[random.below(4)] = *random.pick(&[f32::NAN, f32::INFINITY, 3.0]),
         2 => wbuf = (0..end).map(|_| random.below(3) as f32 - 1.0).collect(),
-        _ => {}
+        3 => {}
+        _ => wbuf = two_lags(random, 145 + 120 * half, end),
     }
     vec![bits(&wbuf), word(half)]
+}
+
+/// A pulse with two pulses before it: the only two lags that count, their ratios about as far apart as decides.
+fn two_lags(random: &mut Random, start: usize, end: usize) -> Vec<f32> {
+    let first = 18 + random.below(80);
+    let second = first + 1 + random.below(142 - first);
+    let factor = if random.once_in(3) { 1.0 } else { 1.333521432163324 };
+    let at = start + random.below(6);
+    // With a pulse of 1 and v before it, lag one has v^2 / (1 + v^2) and lag two w^2 / (1 + v^2 + w^2).
+    let v = random.between(0.2, 0.9) as f32;
+    let all = 1.0 + (v as f64).powi(2);
+    let wanted = factor * (v as f64).powi(2) / all;
+    let w = (wanted * all / (1.0 - wanted)).sqrt() as f32;
+    let w = f32::from_bits(w.to_bits().wrapping_add_signed(random.below(9) as i32 - 4));
+    let mut wbuf = vec![0.0; end];
+    (wbuf[at], wbuf[at - first], wbuf[at - second]) = (1.0, v, w);
+    wbuf
 }
 
 pub fn harmonic_noise_shaping(random: &mut Random) -> Parts {
@@ -588,10 +781,14 @@ pub fn harmonic_noise_shaping(random: &mut Random) -> Parts {
     vec![bits(&signal(random, 385)), word(place), lag(random, 18, 142)]
 }
 
-/// Subframes that repeat the past so well that the gate is near, and small whole numbers.
+/// Small whole numbers, subframes that repeat the past, and such as stand at the gate; bad samples where none is looked
+/// at.
 pub fn harmonic_noise_shaping_special(random: &mut Random, turn: u64) -> Parts {
     let place = 145 + random.below(10);
     let own = lag(random, 18, 142);
+    if turn % 4 == 3 {
+        return at_the_gate(random, place);
+    }
     let end = place + 60 + random.below(3);
     let mut wbuf = if turn % 2 == 0 { sparse(random, end) } else { signal(random, end) };
     let back = own[0] as usize;
@@ -611,6 +808,28 @@ pub fn harmonic_noise_shaping_special(random: &mut Random, turn: u64) -> Parts {
         }
     }
     vec![bits(&wbuf), word(place), own]
+}
+
+/// A pulse and its echo give C = 1; more samples bring E to where 1 - C/E is the last double that passes the gate, or a
+/// few roundings beside it.
+fn at_the_gate(random: &mut Random, place: usize) -> Parts {
+    const LAST: f64 = 5_683_158_522_975_351.0 / (1u64 << 53) as f64;
+    let back = 60 + random.below(83);
+    let mut wbuf = vec![0.0f32; place + 60];
+    (wbuf[place], wbuf[place - back]) = (1.0, 1.0);
+    let energy = 1.0 / (1.0 - LAST);
+    let mut left = f64::from_bits(energy.to_bits().wrapping_add_signed(random.below(21) as i64 - 10)) - 1.0;
+    for n in place + 1..place + 9 {
+        // As much as fits, a little less at first, so that many such sums differ.
+        let most = if n < place + 4 { random.between(0.1, 0.9) } else { 1.0 };
+        let sample = (left * most).max(0.0).sqrt() as f32;
+        let sample =
+            if (sample as f64).powi(2) > left { f32::from_bits(sample.to_bits().saturating_sub(1)) } else { sample };
+        wbuf[n] = sample;
+        left -= (sample as f64).powi(2);
+    }
+    let l_ol = (back as i32 + random.below(7) as i32 - 3).clamp(18, 142) as u32;
+    vec![bits(&wbuf), word(place), vec![l_ol]]
 }
 
 fn combined(random: &mut Random, growth: f32) -> (Vec<u32>, Vec<u32>, Vec<u32>, Vec<u32>, Vec<u32>) {
@@ -649,7 +868,13 @@ pub fn combined_impulse_response_special(random: &mut Random, turn: u64) -> Part
     let (aq, wz, wp, lag, beta) = combined(random, growth);
     if turn % 3 == 0 {
         let zeros = vec![0; 10];
-        return vec![bits(&std::array::from_fn::<f32, 11, _>(|i| if i == 0 { 1.0 } else { 0.0 })), zeros.clone(), zeros, lag, beta];
+        return vec![
+            bits(&std::array::from_fn::<f32, 11, _>(|i| if i == 0 { 1.0 } else { 0.0 })),
+            zeros.clone(),
+            zeros,
+            lag,
+            beta,
+        ];
     }
     vec![aq, wz, wp, lag, beta]
 }

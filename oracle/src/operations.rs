@@ -207,7 +207,8 @@ fn freq_distance(seen: &Seen, distances: &mut Distances) {
     }
     for ((bits, gave), published) in seen.given.iter().zip(seen.gave).zip(seen.published) {
         let inside = f32::from_bits(*bits).abs() <= 0.999;
-        let (what, bound) = if inside { ("cosines in -0.999..0.999", Some(1.0 / 16.0)) } else { ("other cosines", None) };
+        let (what, bound) =
+            if inside { ("cosines in -0.999..0.999", Some(1.0 / 16.0)) } else { ("other cosines", None) };
         distances.seen(what, bound, apart(*gave, *published), &[*bits]);
     }
 }
@@ -256,7 +257,13 @@ pub const OPERATIONS: [Operation; 15] = [
         gives: &[field("a", Singles(11)), field("r", Doubles(11)), field("k2", Singles(1))],
         answer: reference::lpc_analysis,
         door: |f| unsafe {
-            doors::g7231_lpc_analysis(f.singles("window"), f.length("window"), f.singles("a"), f.doubles("r"), f.singles("k2"))
+            doors::g7231_lpc_analysis(
+                f.singles("window"),
+                f.length("window"),
+                f.singles("a"),
+                f.doubles("r"),
+                f.singles("k2"),
+            )
         },
         realistic: inputs::lpc_analysis,
         special: inputs::lpc_analysis_special,
@@ -332,7 +339,12 @@ pub const OPERATIONS: [Operation; 15] = [
         gives: &[field("out", Singles(10)), field("converged", Number)],
         answer: reference::enforce_lsp_stability,
         door: |f| unsafe {
-            doors::g7231_enforce_lsp_stability(f.singles("cosines"), f.single("spacing_hz"), f.singles("out"), f.numbers("converged"))
+            doors::g7231_enforce_lsp_stability(
+                f.singles("cosines"),
+                f.single("spacing_hz"),
+                f.singles("out"),
+                f.numbers("converged"),
+            )
         },
         realistic: inputs::enforce_lsp_stability,
         special: inputs::enforce_lsp_stability_special,

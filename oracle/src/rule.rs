@@ -113,7 +113,10 @@ fn entry_of(i: i128, pi: Interval) -> Result<Entry, String> {
     let nearest = down(low, UNIT);
     let margin = (low - nearest * UNIT).min((nearest + 1) * UNIT - high);
     if margin <= 0 {
-        return Err(format!("entry {i}: the interval from {} to {} units of 2^-30 holds a half", value.low, value.high));
+        return Err(format!(
+            "entry {i}: the interval from {} to {} units of 2^-30 holds a half",
+            value.low, value.high
+        ));
     }
     Ok(Entry {
         nearest: nearest as i64,

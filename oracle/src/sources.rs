@@ -3,7 +3,7 @@
 use std::fs;
 use std::path::{Path, PathBuf};
 
-/// A `const NAME: [T; N] = [..];` with its numbers.
+/// A `const NAME: [T; N] = [..];` of whole numbers.
 pub struct Table {
     pub name: String,
     pub numbers: Vec<i64>,
@@ -44,15 +44,17 @@ fn tables_in(text: &str) -> Result<Vec<Table>, String> {
         rest = &rest[at + 6..];
         let Some((name, after)) = rest.split_once(':') else { continue };
         let Some((kind, value)) = after.split_once('=') else { continue };
-        let (Some(kind), Some(value)) = (kind.trim().strip_prefix('['), value.trim_start().strip_prefix('[')) else { continue };
-        if !kind.trim_start().starts_with(['i', 'u', 'f']) {
-            continue; // an array of an enum, as LspBand::ALL
-        }
+        let (Some(kind), Some(value)) = (kind.trim().strip_prefix('['), value.trim_start().strip_prefix('[')) else {
+            continue;
+        };
         let Some((list, _)) = value.split_once(']') else { continue };
+        let Some((element, length)) = kind.trim_end_matches([']', ' ']).split_once(';') else { continue };
+        if !["i8", "i16", "i32", "i64", "u8", "u16", "u32", "u64", "usize"].contains(&element.trim()) {
+            continue;
+        }
         let name = name.trim().to_string();
         let numbers = numbers(list).map_err(|word| format!("{name}: {word} is no number"))?;
-        let length = kind.trim_end_matches([']', ' ']).rsplit(';').next().unwrap_or("").trim();
-        if let Ok(length) = length.parse::<usize>() {
+        if let Ok(length) = length.trim().parse::<usize>() {
             if length != numbers.len() {
                 return Err(format!("{name} has {} numbers and not {length}", numbers.len()));
             }

@@ -6,3 +6,7 @@ pub mod Least
 pub mod Held
 pub mod Whole
 mod Halving
+mod Segment
+pub mod Order
+mod Below
+mod Reach

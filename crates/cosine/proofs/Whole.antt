@@ -37,7 +37,7 @@ few f s (suc m) e h =
     )
 
 -- ---- a double times 2^46 is exact up to 2^16
-scale : (s : Bool) (m : ℕ) (e : ℤ) → T (fits binary64 (fin s m e)) → m * up e ≤ 2 ^ 16 * down e → HasValue (mul binary64 (fin s m e) (power 46)) s (m * up e * 2 ^ 46) (down e)
+pub scale : (s : Bool) (m : ℕ) (e : ℤ) → T (fits binary64 (fin s m e)) → m * up e ≤ 2 ^ 16 * down e → HasValue (mul binary64 (fin s m e) (power 46)) s (m * up e * 2 ^ 46) (down e)
 scale s m e h l =
     let k = few binary64 s m e h in
     subst (λ (x : Float). HasValue x s (m * up e * 2 ^ 46) (down e)) (sym (product s)) (scaled-exact binary64 s m e 46 (k .0) (k .1) (room (m * up e) (down e) (down-pos e) l))
@@ -68,7 +68,7 @@ cut y m e v l = record {
 }
 
 -- ---- the three branches of the code, at y = x × 2^46
-abbrev zero-double : Float
+abbrev pub zero-double : Float
 zero-double = fin false 0 (pos 0)
 
 not-nan : lt nan zero-double ≡ true → ⊥
@@ -76,7 +76,7 @@ unfolding lt
 not-nan h = mathlib.Core.Bool.false≢true h
 
 -- a value below zero is negative
-below-zero : (y : Float) (s : Bool) (a c : ℕ) → HasValue y s a c → lt y zero-double ≡ true → s ≡ true
+pub below-zero : (y : Float) (s : Bool) (a c : ℕ) → HasValue y s a c → lt y zero-double ≡ true → s ≡ true
 unfolding lt
 below-zero nan s a c v h = absurd v
 below-zero (inf t) s a c v h = absurd v
@@ -118,7 +118,7 @@ neither (fin false m e) s a c C v h k =
     part : (n k : ℕ) → k ≡ 0 → n * 1 ≤ k → n ≡ 0
     part n k q l = omega arith
 
-neg-value : (y : Float) (s : Bool) (a c : ℕ) → HasValue y s a c → HasValue (neg y) (not s) a c
+pub neg-value : (y : Float) (s : Bool) (a c : ℕ) → HasValue y s a c → HasValue (neg y) (not s) a c
 unfolding neg
 neg-value nan s a c v = v
 neg-value (inf t) s a c v = v

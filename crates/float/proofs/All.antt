@@ -1,7 +1,7 @@
 -- The invariant of a loop that tests a list element by element: the whole list passes exactly where what is left of it does.
 -- And what `all` says of each element. Assumes nothing.
 use mathlib.Core.Path.{_≡_, refl, sym, ap, _∙_, subst}
-use mathlib.Core.Bool.{Bool, true, false, not, _&&_}
+use mathlib.Core.Bool.{Bool, true, false, _&&_}
 use mathlib.Core.List.{List, [], _∷_}
 use Prim.Native.Nat.{ℕ, zero, suc, _+_, _≤_, _<_, zero-le}
 use native.Mathlib.Nat.{le-of-suc-le-suc, not-suc-le-zero}
@@ -9,11 +9,9 @@ use native.Mathlib.Numerals.{add-one}
 use native.Mathlib.Omega.{arith}
 use lib.Dec.{T}
 use lib.Ieee.Fits.{and-l, and-r}
-use lib.Ieee.Bits.{is-false}
-use borrow.Author.Tests.{not-false}
 use lib.ListN.{length, getD, drop, drop-of-length-le}
 use lib.Seq.{drop-cons}
-use Rattle.float.specs.Refusal.{all, any}
+use Rattle.float.specs.Refusal.{all}
 
 pub record Passed {A : Type 0} (p : A → Bool) (s : List A) (i : ℕ) : Type 0 where
   pub bound : i ≤ length s
@@ -43,7 +41,3 @@ unfolding all
 all-at p [] t i d h = absurd (not-suc-le-zero h)
 all-at p (x ∷ xs) t zero d h = and-l (p x) (all p xs) t
 all-at p (x ∷ xs) t (suc i) d h = all-at p xs (and-r (p x) (all p xs) t) i d (le-of-suc-le-suc h)
-
--- where some one passes is false, each fails
-pub any-at : {A : Type 0} (p : A → Bool) (s : List A) → any p s ≡ false → (i : ℕ) (d : A) → i < length s → p (getD s i d) ≡ false
-any-at p s e i d h = is-false (p (getD s i d)) (all-at (λ x. not (p x)) s (subst T (sym (not-false (all (λ x. not (p x)) s) e)) tt) i d h)

@@ -2,6 +2,7 @@
 pub mod Table
 pub mod Mapped
 pub mod Loop
+pub mod Change
 pub mod Turns
 pub mod All
 pub mod Any
@@ -18,3 +19,5 @@ pub mod Units
 pub mod Patterns
 mod Narrowing
 mod Signs
+pub mod Blocks
+pub mod Pattern

@@ -41,7 +41,8 @@ fn main() {
     let count = args.value("--count").unwrap_or(if minutes.is_some() { u64::MAX } else { 20_000 });
     let only: Option<String> = args.value("--only");
     let turn: Option<u64> = args.value("--turn");
-    let chosen: Vec<&Operation> = OPERATIONS.iter().filter(|o| only.as_deref().is_none_or(|name| name == o.name)).collect();
+    let chosen: Vec<&Operation> =
+        OPERATIONS.iter().filter(|o| only.as_deref().is_none_or(|name| name == o.name)).collect();
     if chosen.is_empty() {
         args.fail(&format!("there is no function {}", only.unwrap_or_default()));
     }
@@ -75,7 +76,13 @@ fn main() {
 }
 
 /// Compares one operation over some turns; prints its line and whatever differs.
-fn compare(operation: &Operation, rust: &Both, seed: u64, turns: std::ops::Range<u64>, share: Option<Duration>) -> bool {
+fn compare(
+    operation: &Operation,
+    rust: &Both,
+    seed: u64,
+    turns: std::ops::Range<u64>,
+    share: Option<Duration>,
+) -> bool {
     let began = Instant::now();
     let (mut calls, mut refused, mut differences) = (0u64, 0u64, 0u64);
     let mut distances = Distances::default();
@@ -107,7 +114,10 @@ fn compare(operation: &Operation, rust: &Both, seed: u64, turns: std::ops::Range
             }
         } else if let Some(distance) = operation.distance {
             let (published_status, published) = operation.whole_answer(&rust.published, &given);
-            distance(&Seen { given: &given, status, gave: &gave, published_status, published: &published }, &mut distances);
+            distance(
+                &Seen { given: &given, status, gave: &gave, published_status, published: &published },
+                &mut distances,
+            );
         }
     }
     let mut good = differences == 0;
@@ -117,7 +127,12 @@ fn compare(operation: &Operation, rust: &Both, seed: u64, turns: std::ops::Range
         began.elapsed().as_secs_f64()
     );
     for distance in &distances.largest {
-        line += &format!("; {} at most {:.3e} from the published Rust at {}", distance.what, distance.largest, hex(&distance.shown_by));
+        line += &format!(
+            "; {} at most {:.3e} from the published Rust at {}",
+            distance.what,
+            distance.largest,
+            hex(&distance.shown_by)
+        );
         if let Some(bound) = distance.bound {
             let within = distance.largest <= bound;
             good &= within;
@@ -143,7 +158,8 @@ fn show(operation: &Operation, seed: u64, turn: u64, fault: &str, given: &[u32],
     println!("{}: {fault} (seed {seed}, turn {turn})", operation.name);
     for field in operation.takes {
         let words = operation.part(given, field.name).unwrap_or(&[]);
-        let length = if matches!(field.kind, Kind::Samples) { format!(" ({} samples)", words.len()) } else { String::new() };
+        let length =
+            if matches!(field.kind, Kind::Samples) { format!(" ({} samples)", words.len()) } else { String::new() };
         println!("  given  {}{length}: {}", field.name, hex(words));
     }
     for (what, words) in [("gave  ", gave), ("wanted", wanted)] {

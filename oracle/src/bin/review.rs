@@ -14,7 +14,7 @@ review: check that every file, theorem, edit and test that docs/REVIEW.md names 
   --help             this text
 
 A row of the page is `| C5 | \"Cosine of step k\" | .. |`: a sentence's number, its first words, what answers for it.
-A name in backquotes with a slash is a path from the top of the repository, or a path and a name in that file, as
+A name in backquotes with a slash and no space is a path from the top of the repository, or a path and a name in that file, as
 `crates/cosine/specs/Cosine.antt#cosine`. Each path must exist, and each name must stand in its file outside comments.
 Where the numbered sentences are at hand, each row's words must open its sentence.
 Exit status: 0 all is there; 1 something is missing; 2 bad usage.
@@ -40,7 +40,7 @@ fn main() {
             faults += 1;
         };
         let before = names;
-        for name in line.split('`').skip(1).step_by(2).filter(|name| name.contains('/')) {
+        for name in line.split('`').skip(1).step_by(2).filter(|name| name.contains('/') && !name.contains(' ')) {
             names += 1;
             if let Err(what) = exists(&top, name) {
                 wrong(what);
@@ -82,7 +82,8 @@ fn row(line: &str) -> Option<Row<'_>> {
     let mut cells = line.strip_prefix('|')?.split('|').map(str::trim);
     let number = cells.next()?;
     let (letter, digits) = number.split_at_checked(1)?;
-    let numbered = letter.as_bytes()[0].is_ascii_uppercase() && !digits.is_empty() && digits.bytes().all(|b| b.is_ascii_digit());
+    let numbered =
+        letter.as_bytes()[0].is_ascii_uppercase() && !digits.is_empty() && digits.bytes().all(|b| b.is_ascii_digit());
     numbered.then(|| Row { number, words: cells.next().unwrap_or("").trim_matches('"') })
 }
 
@@ -101,7 +102,9 @@ fn opens(all: &BTreeMap<String, String>, row: &Row) -> Result<(), String> {
     match all.get(row.number) {
         None => Err(format!("document 01 has no sentence {}", row.number)),
         Some(_) if words.is_empty() => Err(format!("the row of {} does not quote its sentence", row.number)),
-        Some(sentence) if !sentence.starts_with(&words) => Err(format!("{} opens with other words: {sentence}", row.number)),
+        Some(sentence) if !sentence.starts_with(&words) => {
+            Err(format!("{} opens with other words: {sentence}", row.number))
+        }
         Some(_) => Ok(()),
     }
 }

@@ -50,11 +50,14 @@ fn crates(text: &str) -> Vec<String> {
 fn check_page(page: &str, listed: &[String]) {
     // The table of crates is the one whose head says so; it ends with the first line that is no row.
     let lines = page.lines().skip_while(|line| cell(line) != Some("crate")).skip(2);
-    let rows: Vec<&str> = lines.map_while(cell).map(|name| name.trim_matches('`')).filter(|name| *name != "all").collect();
+    let rows: Vec<&str> =
+        lines.map_while(cell).map(|name| name.trim_matches('`')).filter(|name| *name != "all").collect();
     let missing: Vec<&String> = listed.iter().filter(|name| !rows.contains(&name.as_str())).collect();
     let strange: Vec<&&str> = rows.iter().filter(|row| !listed.iter().any(|name| name == *row)).collect();
     if !missing.is_empty() || !strange.is_empty() {
-        fail(&format!("docs/TIMES.md: no row for {missing:?}, and rows for {strange:?}, which crates.txt does not list"));
+        fail(&format!(
+            "docs/TIMES.md: no row for {missing:?}, and rows for {strange:?}, which crates.txt does not list"
+        ));
     }
     println!("docs/TIMES.md has a row for each of the {} crates", listed.len());
 }

@@ -8,7 +8,7 @@ use lib.ListN.{length, getD}
 use lib.Ieee.{Float, nan, round}
 use Rattle.float.specs.Finite.{power, exceeds, anyExceeds}
 use Rattle.float.specs.Single.{single}
-use Rattle.float.proofs.All.{any-at}
+use Rattle.float.proofs.Any.{any-at}
 use Rattle.float.proofs.Table.{Filled, filled-none, filled-more, filled-all, map-table}
 use Rattle.cosine.specs.Cosine.{cosineSingle}
 use Rattle.cosine.specs.Step.{stepOfFrequency}

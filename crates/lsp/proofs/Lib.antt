@@ -1,0 +1,5 @@
+-- Laws behind the functions' proofs.
+mod InPlace
+mod Series
+mod Turns
+mod Halvings
