@@ -7,6 +7,10 @@ ghost use Rattle.stability.specs.Stability.{enforced};
 ghost use Rattle.weighting.specs.Taps.{weightingTaps};
 ghost use Rattle.weighting.specs.Filter.{weightSubframe};
 ghost use Rattle.pitch.specs.Pitch.{openLoopPitch};
+ghost use Rattle.pitch.specs.Shaping.{harmonicNoiseShaping};
+ghost use Rattle.lsp.specs.Interpolate.{interpolateLsp};
+ghost use Rattle.lsp.specs.Polynomial.{lspToLpc};
+ghost use Rattle.lsp.specs.Pairs.{lpcToLsp};
 ghost use Rattle.c_api.specs.Lent.{lent, flag};
 
 #[no_mangle]
@@ -139,6 +143,74 @@ pub extern "C" fn g7231_open_loop_pitch(wbuf: &[f32], half: usize, lag: &mut u32
     let status = answer.status;
     if status == 0 {
         *lag = answer.lag;
+    }
+    status
+}
+
+#[no_mangle]
+pub extern "C" fn g7231_lpc_to_lsp(a: &[f32; 11], lsp: &mut [f32; 10]) -> u32
+    ensures status { λ r. ⌜ r ≡ lpcToLsp (now (a .entry)) .status ⌝ }
+    ensures lines { λ r. ⌜ now (lsp .exit) ≡ lent r (now (lsp .entry)) (lpcToLsp (now (a .entry)) .lsp) ⌝ }
+{
+    let given = *a;
+    let answer = lsp::lpc_to_lsp(given);
+    let status = answer.status;
+    if status == 0 {
+        let lines = answer.lsp;
+        *lsp = lines;
+    }
+    status
+}
+
+#[no_mangle]
+pub extern "C" fn g7231_interpolate_lsp(choice: usize, prev: &[f32; 10], cur: &[f32; 10], out: &mut [f32; 10]) -> u32
+    ensures status { λ r. ⌜ r ≡ interpolateLsp choice (now (prev .entry)) (now (cur .entry)) .status ⌝ }
+    ensures lines { λ r. ⌜ now (out .exit) ≡ lent r (now (out .entry)) (interpolateLsp choice (now (prev .entry)) (now (cur .entry)) .lsp) ⌝ }
+{
+    let last = *prev;
+    let this = *cur;
+    let answer = lsp::interpolate_lsp(choice, last, this);
+    let status = answer.status;
+    if status == 0 {
+        let lines = answer.lsp;
+        *out = lines;
+    }
+    status
+}
+
+#[no_mangle]
+pub extern "C" fn g7231_lsp_to_lpc(lsp: &[f32; 10], a: &mut [f32; 11]) -> u32
+    ensures status { λ r. ⌜ r ≡ lspToLpc (now (lsp .entry)) .status ⌝ }
+    ensures coefficients { λ r. ⌜ now (a .exit) ≡ lent r (now (a .entry)) (lspToLpc (now (lsp .entry)) .a) ⌝ }
+{
+    let given = *lsp;
+    let answer = lsp::lsp_to_lpc(given);
+    let status = answer.status;
+    if status == 0 {
+        let coefficients = answer.a;
+        *a = coefficients;
+    }
+    status
+}
+
+#[no_mangle]
+pub extern "C" fn g7231_harmonic_noise_shaping(
+    wbuf: &[f32],
+    place: usize,
+    l_ol: u32,
+    lag: &mut u32,
+    beta: &mut f32,
+) -> u32
+    ensures status { λ r. ⌜ r ≡ harmonicNoiseShaping 142 (now (wbuf .entry)) place «l_ol» .status ⌝ }
+    ensures lag { λ r. ⌜ now (lag .exit) ≡ lent r (now (lag .entry)) (harmonicNoiseShaping 142 (now (wbuf .entry)) place «l_ol» .params .lag) ⌝ }
+    ensures factor { λ r. ⌜ now (beta .exit) ≡ lent r (now (beta .entry)) (harmonicNoiseShaping 142 (now (wbuf .entry)) place «l_ol» .params .beta) ⌝ }
+{
+    let answer = pitch::harmonic_noise_shaping(wbuf, place, l_ol);
+    let status = answer.status;
+    if status == 0 {
+        let params = answer.params;
+        *lag = params.lag;
+        *beta = params.beta;
     }
     status
 }

@@ -4,6 +4,7 @@ use mathlib.Core.Path.{_≡_, sym, ap, _∙_}
 use mathlib.Core.Bool.{Bool, false}
 use Prim.Native.Nat.{ℕ, _^_}
 use native.Mathlib.Nat.{le-trans, le-of-eq}
+use native.Mathlib.Omega.{arith}
 use lib.Dec.{T, lit≤, le→leb}
 use lib.IntN.{pos}
 use lib.Ieee.{Float, binary64, inFloat, le, neg, mul, ofInt, ofBits}
@@ -35,7 +36,7 @@ whole-below-spec =
     -- f32-to-f64-with-nan-requires
     (λ c κs. search needs)
     -- sub-result
-    (λ c. exactly _ _ (search needs) (c .before .before .before .before .pre .0) (c .before .before .before .before .pre .1) (c .before .before .before .whole-part .ensures) (test _ _ _ _ (c .before .f32-to-f64-with-nan .ensures) (c .if1 .taken)) .0)
+    (λ c. omega (arith, exactly _ _ (search needs) (c .before .before .before .before .pre .0) (c .before .before .before .before .pre .1) (c .before .before .before .whole-part .ensures) (test _ _ _ _ (c .before .f32-to-f64-with-nan .ensures) (c .if1 .taken)) .0))
     -- returns
     (λ c. exactly _ _ (search needs) (c .before .before .before .before .pre .0) (c .before .before .before .before .pre .1) (c .before .before .before .whole-part .ensures) (test _ _ _ _ (c .before .f32-to-f64-with-nan .ensures) (c .if1 .taken)) .1)
     -- returns-2

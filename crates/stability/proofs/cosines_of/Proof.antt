@@ -5,7 +5,7 @@ use Prim.Native.Nat.{_-_}
 use lib.Ieee.{nan}
 use Rattle.float.specs.Vector.{at}
 use Rattle.float.specs.Finite.{power, exceeds}
-use Rattle.float.proofs.All.{any-at}
+use Rattle.float.proofs.Any.{any-at}
 use Rattle.float.proofs.Mapped.{filled-map}
 use Rattle.float.proofs.Table.{Filled, filled-none, filled-more}
 use Rattle.cosine.specs.Cosine.{cosineSingle}
