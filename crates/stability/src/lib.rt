@@ -97,8 +97,8 @@ fn settle(angles: [f32; 10], delta: f32) -> Settled
 fn margin(delta: f32) -> f32
     ensures { λ r. ⌜ r ≡ margin delta ⌝ }
 {
-    let half = 0.5 * delta;
-    if half < 1.0e-3 { 1.0e-3 } else { half }
+    let margin = 0.5 * delta;
+    if margin < 1.0e-3 { 1.0e-3 } else { margin }
 }
 
 // The first angle and the last one, kept off the ends.
