@@ -11,3 +11,4 @@ mod Units
 pub mod Patterns
 mod Narrowing
 mod Signs
+pub mod Anywhere
