@@ -22,6 +22,7 @@ use Rattle.combined.specs.Run.{done}
 use Rattle.combined.proofs.History.{cascaded-more, harmonic-length, out-shaped}
 
 pub record Cascaded (q : Settings) (input : List Float) (mem : CombinedMem) (n : ℕ) (syn xs fs : List Float) : Type 0 where
+  pub full : length (mem .«p_hist») ≡ reach
   pub bound : n ≤ 60
   pub long-syn : length syn ≡ 70
   pub long-xs : length xs ≡ 70
@@ -32,21 +33,26 @@ pub record Cascaded (q : Settings) (input : List Float) (mem : CombinedMem) (n :
   pub left : drop (n + 10) syn ≡ drop n input
   pub harmonic : mem .«p_hist» ++ take n (drop 10 fs) ≡ cascaded q input mem n .harmonic
 
-module _ (q : Settings) (input : List Float) (mem : CombinedMem) (full : length (mem .«p_hist») ≡ reach) where
-  pub cascaded-none : (syn xs fs : List Float) → Line (mem .syn) input syn → Line (mem .wz) input xs → Line (mem .wp) input fs → Cascaded q input mem 0 syn xs fs
-  unfolding times
-  cascaded-none syn xs fs a b c = record {
-    bound = zero-le;
-    long-syn = a .long;
-    long-xs = b .long;
-    long-fs = c .long;
-    synthesis = a .before;
-    zeros = b .before;
-    poles = c .before;
-    left = a .after;
-    harmonic = append-nil (mem .«p_hist»);
-  }
+-- the memory that three lines hold at their start, with a history
+abbrev pub held : List Float → List Float → List Float → List Float → CombinedMem
+held p-hist syn xs fs = record { syn = behind 0 syn; wz = behind 0 xs; wp = behind 0 fs; «p_hist» = p-hist }
 
+pub cascaded-none : (q : Settings) (p-hist syn xs fs : List Float) → length p-hist ≡ reach → length syn ≡ 70 → length xs ≡ 70 → length fs ≡ 70 → Cascaded q (drop 10 syn) (held p-hist syn xs fs) 0 syn xs fs
+unfolding times
+cascaded-none q p-hist syn xs fs f a b c = record {
+  full = f;
+  bound = zero-le;
+  long-syn = a;
+  long-xs = b;
+  long-fs = c;
+  synthesis = refl;
+  zeros = refl;
+  poles = refl;
+  left = refl;
+  harmonic = append-nil p-hist;
+}
+
+module _ (q : Settings) (input : List Float) (mem : CombinedMem) where
   module _ (n : ℕ) (syn xs fs : List Float) (h : n < 60) (r : Cascaded q input mem n syn xs fs) where
     -- the sample that is next in the line of synthesis
     next : at syn (n + 10) ≡ at input n
@@ -72,8 +78,9 @@ module _ (q : Settings) (input : List Float) (mem : CombinedMem) (full : length 
         let c = cascaded q input mem n in
         let t : s ≡ synthesised (q .aq) (at input n) (c .syn) = e ∙ rw (d, next, r .synthesis) in
         let w : f ≡ weighted (q .wz) (q .wp) (synthesised (q .aq) (at input n) (c .syn)) (c .wz) (c .wp) = g ∙ rw (t, r .zeros, r .poles) in
-        let m = cascaded-more q input mem full n in
+        let m = cascaded-more q input mem (r .full) n in
         record {
+          full = r .full;
           bound = omega arith;
           long-syn = length-set syn (n + 10) s ∙ r .long-syn;
           long-xs = length-set xs (n + 10) s ∙ r .long-xs;
@@ -92,10 +99,16 @@ module _ (q : Settings) (input : List Float) (mem : CombinedMem) (full : length 
       let s = cascaded q input mem 60 in
       let l : length (drop 10 fs) ≤ 60 = simp length-drop (omega (arith, r .long-fs)) in
       let i : p ≡ s .harmonic = ep ∙ ap (λ (y : List Float). mem .«p_hist» ++ y) (sym (take-all 60 (drop 10 fs) l)) ∙ rw e at (r .harmonic) in
-      let k : length (s .harmonic) - reach ≡ 60 = omega (arith, harmonic-length q input mem full 60) in
+      let k : length (s .harmonic) - reach ≡ 60 = omega (arith, harmonic-length q input mem (r .full) 60) in
       let ta : a ≡ s .syn = ea ∙ rw e at (r .synthesis) in
       let tb : b ≡ s .wz = eb ∙ rw e at (r .zeros) in
       let tc : c ≡ s .wp = ec ∙ rw e at (r .poles) in
       let th : h ≡ drop (length (s .harmonic) - reach) (s .harmonic) = eh ∙ rw (k, i) in
-      let to : out ≡ s .out = eo ∙ rw i (sym (out-shaped q input mem full low 60)) in
+      let to : out ≡ s .out = eo ∙ rw i (sym (out-shaped q input mem (r .full) low 60)) in
       rw (ta, tb, tc, th, to)
+
+-- the same from lines that start with the memory and the input given
+pub cascaded-end : (q : Settings) (input : List Float) (mem : CombinedMem) (syn₀ xs₀ fs₀ : List Float) (n : ℕ) (syn xs fs p out a b c h : List Float) → 1 ≤ q .lag → Line (mem .syn) input syn₀ → Line (mem .wz) input xs₀ → Line (mem .wp) input fs₀ → 60 ≤ n → p ≡ mem .«p_hist» ++ drop 10 fs → out ≡ table 60 (shaped (q .lag) (q .beta) p) → a ≡ behind 60 syn → b ≡ behind 60 xs → c ≡ behind 60 fs → h ≡ drop 60 p → Cascaded q (drop 10 syn₀) (held (mem .«p_hist») syn₀ xs₀ fs₀) n syn xs fs → _≡_ {A = Combined} (record { status = 0; out = out; mem = record { syn = a; wz = b; wp = c; «p_hist» = h } }) (done (cascaded q input mem 60))
+cascaded-end q input mem syn₀ xs₀ fs₀ n syn xs fs p out a b c h low ls lx lf late ep eo ea eb ec eh r =
+    cascaded-all q (drop 10 syn₀) (held (mem .«p_hist») syn₀ xs₀ fs₀) n syn xs fs p out a b c h low late ep eo ea eb ec eh r
+    ∙ rw (ls .after, ls .before, lx .before, lf .before)

@@ -40,7 +40,9 @@ runCombined q input mem = answer (first ((4, wrongLag (q .lag)) ∷ (5, wild q i
 abbrev pub impulse : List Float
 impulse = single 1 1 ∷ zeros 59
 
+abbrev pub response : Combined → ImpulseResponse
+response r = record { status = r .status; out = r .out }
+
 -- from rest on the unit impulse
 unfoldable pub impulseResponse : Settings → ImpulseResponse
-unfolding runCombined
-impulseResponse q = record { status = runCombined q impulse atRest .status; out = runCombined q impulse atRest .out }
+impulseResponse q = response (runCombined q impulse atRest)

@@ -173,7 +173,8 @@ fn memory_finite(mem: CombinedMem) -> bool
     let wz = mem.wz;
     let wp = mem.wp;
     let p_hist = mem.p_hist;
-    float::all_finite(&syn) & (float::all_finite(&wz) & (float::all_finite(&wp) & float::all_finite(&p_hist)))
+    float::all_finite(&syn)
+        & (float::all_finite(&wz) & (float::all_finite(&wp) & float::all_finite(&p_hist)))
 }
 
 fn given_finite(input: [f32; 60], aq: [f32; 11], wz: [f32; 10], wp: [f32; 10], beta: f32) -> bool
@@ -211,7 +212,13 @@ pub fn run_combined(
 }
 
 // The filter's response to the unit impulse, from rest.
-pub fn combined_impulse_response(aq: [f32; 11], wz: [f32; 10], wp: [f32; 10], lag: u32, beta: f32) -> ImpulseResponse
+pub fn combined_impulse_response(
+    aq: [f32; 11],
+    wz: [f32; 10],
+    wp: [f32; 10],
+    lag: u32,
+    beta: f32,
+) -> ImpulseResponse
     ensures { λ r. ⌜ r ≡ impulseResponse (settings aq wz wp lag beta) ⌝ }
 {
     let mut delta = [0.0f32; 60];
