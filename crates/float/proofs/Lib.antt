@@ -21,3 +21,4 @@ mod Narrowing
 mod Signs
 pub mod Blocks
 pub mod Pattern
+pub mod Anywhere
