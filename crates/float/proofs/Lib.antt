@@ -3,6 +3,7 @@ pub mod Table
 pub mod Loop
 pub mod All
 pub mod Order
+pub mod Strict
 pub mod Value
 pub mod Product
 pub mod Rounded
