@@ -1,6 +1,6 @@
--- What decides the answers of the decoder: its previous set is not finite, or exceeds 65,536, or neither. Assumes nothing.
-use mathlib.Core.Path.{_≡_, refl}
-use mathlib.Core.Bool.{true, false}
+-- What decides the answers of the decoder and of the quantiser: a set is not finite, or exceeds 65,536, or neither. Assumes nothing.
+use mathlib.Core.Path.{_≡_, refl, sym, ap, _∙_}
+use mathlib.Core.Bool.{Bool, true, false}
 use mathlib.Core.List.{List}
 use Prim.Native.Nat.{ℕ}
 use lib.IntN.{ℤ}
@@ -10,11 +10,16 @@ use Rattle.float.specs.Refusal.{all}
 use Rattle.float.specs.Finite.{anyExceeds}
 use Rattle.float.specs.Single.{single}
 use Rattle.spec_lsp.specs.Decode.{refusedSet, decoded, decodeLspFreq}
+use Rattle.spec_lsp.specs.Quantise.{indexOf, refusedIndex, quantisedAs, quantiseLspFreq}
 
 -- 65,536 as the code writes it
 pub limit : ofBits binary32 1199570944 ≡ single 65536 1
 unfolding ofBits single round
 limit = refl
+
+-- the code's test is the definition's
+pub within : (xs : List Float) (b v : Bool) → b ≡ anyExceeds (ofBits binary32 1199570944) xs → b ≡ v → anyExceeds (single 65536 1) xs ≡ v
+within xs b v e h = ap (λ (x : Float). anyExceeds x xs) (sym limit) ∙ sym e ∙ h
 
 module _ (rows : List ℤ) (index : ℕ) (prev : List Float) where
   pub decode-not-finite : all finite prev ≡ false → decodeLspFreq rows index prev ≡ refusedSet 5
@@ -28,3 +33,24 @@ module _ (rows : List ℤ) (index : ℕ) (prev : List Float) where
   pub decode-done : all finite prev ≡ true → anyExceeds (single 65536 1) prev ≡ false → decodeLspFreq rows index prev ≡ record { status = 0; set = decoded rows index prev }
   unfolding decodeLspFreq
   decode-done h k = rw (h, k)
+
+module _ (rows : List ℤ) (p prev : List Float) where
+  pub quantise-not-finite : all finite p ≡ false → quantiseLspFreq rows p prev ≡ refusedIndex 5
+  unfolding quantiseLspFreq
+  quantise-not-finite h = rw h
+
+  pub quantise-prev-not-finite : all finite p ≡ true → all finite prev ≡ false → quantiseLspFreq rows p prev ≡ refusedIndex 5
+  unfolding quantiseLspFreq
+  quantise-prev-not-finite h k = rw (h, k)
+
+  pub quantise-exceeds : all finite p ≡ true → all finite prev ≡ true → anyExceeds (single 65536 1) p ≡ true → quantiseLspFreq rows p prev ≡ refusedIndex 6
+  unfolding quantiseLspFreq
+  quantise-exceeds h k l = rw (h, k, l)
+
+  pub quantise-prev-exceeds : all finite p ≡ true → all finite prev ≡ true → anyExceeds (single 65536 1) p ≡ false → anyExceeds (single 65536 1) prev ≡ true → quantiseLspFreq rows p prev ≡ refusedIndex 6
+  unfolding quantiseLspFreq
+  quantise-prev-exceeds h k l m = rw (h, k, l, m)
+
+  pub quantise-done : all finite p ≡ true → all finite prev ≡ true → anyExceeds (single 65536 1) p ≡ false → anyExceeds (single 65536 1) prev ≡ false → quantiseLspFreq rows p prev ≡ quantisedAs rows (indexOf rows p prev) prev
+  unfolding quantiseLspFreq
+  quantise-done h k l m = rw (h, k, l, m)
