@@ -7,6 +7,8 @@ pub mod Strict
 pub mod Value
 pub mod Product
 pub mod Rounded
+pub mod Error
+pub mod Near
 pub mod Dyadic
 pub mod Truncate
 pub mod Bound

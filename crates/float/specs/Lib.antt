@@ -7,3 +7,4 @@ pub mod Single
 pub mod Double
 pub mod HalfEven
 pub mod Narrow
+pub mod Difference
