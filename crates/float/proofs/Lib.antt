@@ -12,6 +12,7 @@ pub mod Near
 pub mod Dyadic
 pub mod Truncate
 pub mod Bound
+pub mod Whole
 mod HalfEven
 mod Units
 pub mod Patterns

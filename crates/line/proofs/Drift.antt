@@ -42,3 +42,25 @@ pub closer : (u E F rp rl px lx py ly ps ls pt lt D : ℕ) →
     px + ly ≤ py + lx + D →
     8 * (ps + lt) ≤ 8 * (pt + ls) + 3 * D + 148 * u
 closer u E F rp rl px lx py ly ps ls pt lt D h k m = omega arith
+
+-- the difference of two values, as `difference` has it: a is what the first has above zero with what the second has below, b the other way round
+pub apart-above : (a b : ℕ) → a ≤ b + ((a - b) + (b - a))
+apart-above a b = omega arith
+
+pub apart-below : (a b : ℕ) → b ≤ a + ((a - b) + (b - a))
+apart-below a b = omega arith
+
+pub apart-most : (a b K : ℕ) → a ≤ b + K → b ≤ a + K → (a - b) + (b - a) ≤ K
+apart-most a b K h k = omega arith
+
+pub apart-shrinks : (u a b D : ℕ) → 8 * a ≤ 8 * b + 3 * D + 148 * u → 8 * b ≤ 8 * a + 3 * D + 148 * u → 8 * ((a - b) + (b - a)) + 3 * (32 * u) ≤ 3 * D + 8 * (32 * u)
+apart-shrinks u a b D h k = omega arith
+
+-- ---- two values near the same one
+pub between : (K E F px lx py ly : ℕ) → px + F ≤ lx + E + K → ly + E ≤ py + F + K → px + ly ≤ py + lx + (K + K)
+between K E F px lx py ly h k = omega arith
+
+-- ---- a value near a resting one lies below 65,536, 134,217,728 u
+pub below-limit : (u E F px lx : ℕ) → E ≤ 56766464 * u → px + F ≤ lx + E + 33554432 * u → (px ≡ 0) ⊎ (lx ≡ 0) → px ≤ 134217728 * u
+below-limit u E F px lx h k (inl z) = omega arith
+below-limit u E F px lx h k (inr z) = omega arith

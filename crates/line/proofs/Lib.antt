@@ -1,2 +1,3 @@
-pub mod Drift
+mod Drift
+mod Powers
 pub mod Rebuild

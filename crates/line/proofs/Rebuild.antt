@@ -14,7 +14,7 @@ use Rattle.float.specs.Single.{_⊕_, _⊖_, _⊗_, single}
 use Rattle.float.proofs.Dyadic.{dyadic-exact}
 use Rattle.float.proofs.Near.{Good, Near, add-near, sub-near, mul-near, one-side}
 use Rattle.spec_lsp.specs.Decode.{predicted, rebuilt}
-use Rattle.line.proofs.Drift.{first, second, third, room-first, room-product, room-second, room-third, stays, closer}
+use Rattle.line.proofs.Drift.{first, second, third, room-first, room-product, room-second, room-third, stays, closer, apart-above, apart-below, apart-shrinks}
 
 -- 0.375
 ratio : HasValue (single 3 8) false 3 8
@@ -92,3 +92,18 @@ module _ (u : ℕ) (U : 0 < u) (e138 : 2 ^ 138 ≡ u) (e140 : 2 ^ 140 ≡ 4 * u)
         above = stays u (plus x + less dc) (less x + plus dc) (plus dc) (less dc) (plus row) (less row) (plus z) (less z) (i .above) (s .most) (m .over);
         below = stays u (less x + plus dc) (plus x + less dc) (less dc) (plus dc) (less row) (plus row) (less z) (plus z) (i .below) (s .least) (m .under);
       }
+
+  -- what lies between two shrinks to 3/8, and 20 u
+  pub shrinks : (x y dc row : Float) → Inside u dc x → Inside u dc y → Resting u dc → Small u row → 8 * difference (rebuilt x dc row) (rebuilt y dc row) + 3 * (32 * u) ≤ 3 * difference x y + 8 * (32 * u)
+  unfolding difference
+  shrinks x y dc row i j r s =
+      let p = moved x dc row i r s in
+      let q = moved y dc row j r s in
+      let z = rebuilt x dc row in
+      let w = rebuilt y dc row in
+      let a = plus x + less y in
+      let b = plus y + less x in
+      let D = (a - b) + (b - a) in
+      apart-shrinks u (plus z + less w) (plus w + less z) D
+      (closer u (plus dc) (less dc) (plus row) (less row) (plus x) (less x) (plus y) (less y) (plus z) (less z) (plus w) (less w) D (p .over) (q .under) (apart-above a b))
+      (closer u (plus dc) (less dc) (plus row) (less row) (plus y) (less y) (plus x) (less x) (plus w) (less w) (plus z) (less z) D (q .over) (p .under) (apart-below a b))

@@ -63,8 +63,12 @@ refusedIndex n = record { status = n; index = 0; set = replicate 10 (fin false 0
 abbrev pub quantisedAs : List ℤ → ℕ → List Float → Quantised
 quantisedAs rows index prev = record { status = 0; index = index; set = decoded rows index prev }
 
-unfoldable pub quantiseLspFreq : List ℤ → List Float → List Float → Quantised
-quantiseLspFreq rows p prev =
+-- with any choice of an index, and with the search's
+unfoldable pub quantiseBy : List ℤ → (List Float → List Float → ℕ) → List Float → List Float → Quantised
+quantiseBy rows choice p prev =
     answer (first ((5, notFinite p || notFinite prev) ∷ (6, anyExceeds (single 65536 1) p || anyExceeds (single 65536 1) prev) ∷ []))
     refusedIndex
-    (quantisedAs rows (indexOf rows p prev) prev)
+    (quantisedAs rows (choice p prev) prev)
+
+unfoldable pub quantiseLspFreq : List ℤ → List Float → List Float → Quantised
+quantiseLspFreq rows p prev = quantiseBy rows (indexOf rows) p prev
