@@ -1,3 +1,5 @@
 mod Drift
 mod Powers
+mod Each
 pub mod Rebuild
+pub mod Held
