@@ -1,5 +1,7 @@
 mod Drift
 mod Powers
 mod Each
-pub mod Rebuild
-pub mod Held
+mod Rebuild
+mod Held
+mod Turns
+pub mod Rejoin
