@@ -7,15 +7,19 @@ pub mod Turns
 pub mod All
 pub mod Any
 pub mod Order
+pub mod Strict
 pub mod Value
 pub mod Product
 pub mod Rounded
+pub mod Error
+pub mod Near
 pub mod Dyadic
 pub mod Truncate
 pub mod Bound
 pub mod Range
 pub mod HalfEven
 pub mod Units
+pub mod Whole
 pub mod Patterns
 mod Narrowing
 mod Signs

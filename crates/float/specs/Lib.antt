@@ -9,3 +9,4 @@ pub mod HalfEven
 pub mod Narrow
 pub mod Vector
 pub mod Pattern
+pub mod Difference

@@ -1,4 +1,8 @@
-// The line spectra of the coder in the tables' units: 32,768 make half a circle.
+// The line spectra of a frame in the tables' units, of which 32,768 make half a circle: from cosines to frequencies and back,
+// and the predictive split quantiser with its decoder (§2.5, §2.6).
+pub mod decode;
+pub mod index;
+pub mod quantise;
 ghost use mathlib.Core.Path.{_≡_};
 ghost use mathlib.Core.List.{map};
 ghost use mathlib.Core.Bool.{true, false};

@@ -1,0 +1,1 @@
+// Both ends of a line, turn by turn.
