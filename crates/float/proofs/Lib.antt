@@ -1,8 +1,11 @@
 -- Laws that other crates cite.
 pub mod Table
+pub mod Mapped
 pub mod Loop
 pub mod Change
+pub mod Turns
 pub mod All
+pub mod Any
 pub mod Order
 pub mod Value
 pub mod Product
@@ -10,8 +13,11 @@ pub mod Rounded
 pub mod Dyadic
 pub mod Truncate
 pub mod Bound
+pub mod Range
 pub mod HalfEven
 pub mod Units
 pub mod Patterns
 mod Narrowing
 mod Signs
+pub mod Blocks
+pub mod Pattern

@@ -1,0 +1,144 @@
+// Doors for C and Rust, one for each operation, as include/g7231.h declares them. A door returns the operation's status.
+// A refused call leaves every lent buffer as it was.
+ghost use mathlib.Core.Path.{_≡_};
+ghost use Rattle.spec_lsp.specs.Convert.{freqToCosines, cosinesToFreq};
+ghost use Rattle.lpc.specs.Analysis.{lpcAnalysis};
+ghost use Rattle.stability.specs.Stability.{enforced};
+ghost use Rattle.weighting.specs.Taps.{weightingTaps};
+ghost use Rattle.weighting.specs.Filter.{weightSubframe};
+ghost use Rattle.pitch.specs.Pitch.{openLoopPitch};
+ghost use Rattle.c_api.specs.Lent.{lent, flag};
+
+#[no_mangle]
+pub extern "C" fn g7231_lsp_cosines_to_freq(cosines: &[f32; 10], freq: &mut [f32; 10]) -> u32
+    ensures status { λ r. ⌜ r ≡ cosinesToFreq (now (cosines .entry)) .status ⌝ }
+    ensures buffer { λ r. ⌜ now (freq .exit) ≡ lent r (now (freq .entry)) (cosinesToFreq (now (cosines .entry)) .lines) ⌝ }
+{
+    let given = *cosines;
+    let answer = spec_lsp::lsp_cosines_to_freq(given);
+    let status = answer.status;
+    if status == 0 {
+        let lines = answer.lines;
+        *freq = lines;
+    }
+    status
+}
+
+#[no_mangle]
+pub extern "C" fn g7231_lsp_freq_to_cosines(freq: &[f32; 10], cosines: &mut [f32; 10]) -> u32
+    ensures status { λ r. ⌜ r ≡ freqToCosines (now (freq .entry)) .status ⌝ }
+    ensures buffer { λ r. ⌜ now (cosines .exit) ≡ lent r (now (cosines .entry)) (freqToCosines (now (freq .entry)) .lines) ⌝ }
+{
+    let given = *freq;
+    let answer = spec_lsp::lsp_freq_to_cosines(given);
+    let status = answer.status;
+    if status == 0 {
+        let lines = answer.lines;
+        *cosines = lines;
+    }
+    status
+}
+
+#[no_mangle]
+pub extern "C" fn g7231_lpc_analysis(window: &[f32], a: &mut [f32; 11], r: &mut [f64; 11], k2: &mut f32) -> u32
+    ensures status { λ s. ⌜ s ≡ lpcAnalysis (now (window .entry)) .status ⌝ }
+    ensures coefficients { λ s. ⌜ now (a .exit) ≡ lent s (now (a .entry)) (lpcAnalysis (now (window .entry)) .set .a) ⌝ }
+    ensures sums { λ s. ⌜ now (r .exit) ≡ lent s (now (r .entry)) (lpcAnalysis (now (window .entry)) .set .r) ⌝ }
+    ensures reflection { λ s. ⌜ now (k2 .exit) ≡ lent s (now (k2 .entry)) (lpcAnalysis (now (window .entry)) .set .k2) ⌝ }
+{
+    let answer = lpc::lpc_analysis(window);
+    let status = answer.status;
+    if status == 0 {
+        let set = answer.set;
+        let coefficients = set.a;
+        let sums = set.r;
+        *a = coefficients;
+        *r = sums;
+        *k2 = set.k2;
+    }
+    status
+}
+
+#[no_mangle]
+pub extern "C" fn g7231_enforce_lsp_stability(
+    cosines: &[f32; 10],
+    spacing_hz: f32,
+    out: &mut [f32; 10],
+    converged: &mut u32,
+) -> u32
+    ensures status { λ r. ⌜ r ≡ enforced (now (cosines .entry)) «spacing_hz» .status ⌝ }
+    ensures lines { λ r. ⌜ now (out .exit) ≡ lent r (now (out .entry)) (enforced (now (cosines .entry)) «spacing_hz» .cosines) ⌝ }
+    ensures told { λ r. ⌜ now (converged .exit) ≡ lent r (now (converged .entry)) (flag (enforced (now (cosines .entry)) «spacing_hz» .converged)) ⌝ }
+{
+    let given = *cosines;
+    let answer = stability::enforce_lsp_stability(given, spacing_hz);
+    let status = answer.status;
+    if status == 0 {
+        let lines = answer.cosines;
+        *out = lines;
+        *converged = answer.converged as u32;
+    }
+    status
+}
+
+#[no_mangle]
+pub extern "C" fn g7231_weighting_taps(a: &[f32; 11], wz: &mut [f32; 10], wp: &mut [f32; 10]) -> u32
+    ensures status { λ r. ⌜ r ≡ weightingTaps (now (a .entry)) .status ⌝ }
+    ensures zeros { λ r. ⌜ now (wz .exit) ≡ lent r (now (wz .entry)) (weightingTaps (now (a .entry)) .wz) ⌝ }
+    ensures poles { λ r. ⌜ now (wp .exit) ≡ lent r (now (wp .entry)) (weightingTaps (now (a .entry)) .wp) ⌝ }
+{
+    let given = *a;
+    let answer = weighting::weighting_taps(given);
+    let status = answer.status;
+    if status == 0 {
+        let zeros = answer.wz;
+        let poles = answer.wp;
+        *wz = zeros;
+        *wp = poles;
+    }
+    status
+}
+
+#[no_mangle]
+pub extern "C" fn g7231_weight_subframe(
+    x: &[f32],
+    wz: &[f32; 10],
+    wp: &[f32; 10],
+    x_mem: &mut [f32; 10],
+    f_mem: &mut [f32; 10],
+    out: &mut [f32; 60],
+) -> u32
+    ensures status { λ r. ⌜ r ≡ weightSubframe (now (x .entry)) (now (wz .entry)) (now (wp .entry)) (now («x_mem» .entry)) (now («f_mem» .entry)) .status ⌝ }
+    ensures inputs { λ r. ⌜ now («x_mem» .exit) ≡ lent r (now («x_mem» .entry)) (weightSubframe (now (x .entry)) (now (wz .entry)) (now (wp .entry)) (now («x_mem» .entry)) (now («f_mem» .entry)) .«x_mem») ⌝ }
+    ensures outputs { λ r. ⌜ now («f_mem» .exit) ≡ lent r (now («f_mem» .entry)) (weightSubframe (now (x .entry)) (now (wz .entry)) (now (wp .entry)) (now («x_mem» .entry)) (now («f_mem» .entry)) .«f_mem») ⌝ }
+    ensures samples { λ r. ⌜ now (out .exit) ≡ lent r (now (out .entry)) (weightSubframe (now (x .entry)) (now (wz .entry)) (now (wp .entry)) (now («x_mem» .entry)) (now («f_mem» .entry)) .out) ⌝ }
+{
+    let zeros = *wz;
+    let poles = *wp;
+    let past_in = *x_mem;
+    let past_out = *f_mem;
+    let answer = weighting::weight_subframe(x, zeros, poles, past_in, past_out);
+    let status = answer.status;
+    if status == 0 {
+        let inputs = answer.x_mem;
+        let outputs = answer.f_mem;
+        let samples = answer.out;
+        *x_mem = inputs;
+        *f_mem = outputs;
+        *out = samples;
+    }
+    status
+}
+
+#[no_mangle]
+pub extern "C" fn g7231_open_loop_pitch(wbuf: &[f32], half: usize, lag: &mut u32) -> u32
+    ensures status { λ r. ⌜ r ≡ openLoopPitch 142 (now (wbuf .entry)) half .status ⌝ }
+    ensures lag { λ r. ⌜ now (lag .exit) ≡ lent r (now (lag .entry)) (openLoopPitch 142 (now (wbuf .entry)) half .lag) ⌝ }
+{
+    let answer = pitch::open_loop_pitch(wbuf, half);
+    let status = answer.status;
+    if status == 0 {
+        *lag = answer.lag;
+    }
+    status
+}

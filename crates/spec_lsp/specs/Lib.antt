@@ -1,0 +1,2 @@
+-- The line spectra of the coder in the tables' units: 32,768 make half a circle.
+pub mod Convert
