@@ -26,7 +26,7 @@ use Rattle.quarter.proofs.Fall.{at-most}
 use Rattle.lsp.specs.declared.Bracket.{Bracket}
 use Rattle.lsp.specs.declared.Crossings.{Crossings}
 use Rattle.lsp.specs.Chebyshev.{valueAt}
-use Rattle.lsp.specs.Root.{point, there, met, noted, walked, nowhere, crossings, middle, halved, bracket, rootIn, rootsIn}
+use Rattle.lsp.specs.Root.{point, there, met, noted, scanned, noCrossings, crossings, middle, halved, bracket, rootIn, rootsIn}
 use Rattle.lsp.specs.Pairs.{inTurn}
 
 -- in −1..1
@@ -88,7 +88,7 @@ point-inside i h =
     at-most-div binary64 (ofInt binary64 (entry (4 * i))) (double (2 ^ 30) 1) (2 ^ 30) 1 false (2 ^ 30) 1 1 1 (lit< tt) (lit< tt) (lit< tt) (lit< tt) one-held (lit≤ tt)
     (entries (4 * i) (omega arith)) unit
 
--- ---- the walk
+-- ---- the scan
 record Inside (xs : List Float) : Type 0 where
   pub long : length xs ≡ 5
   pub all : (j : ℕ) → j < 5 → Cosine (getD xs j nan)
@@ -126,19 +126,19 @@ noted-inside i s h r = record {
   highs = set-inside (s .high) (s .count) (point (i - 1)) (point-inside (i - 1) (omega arith)) (r .highs);
 }
 
-walked-inside : (c : List Float) (i : ℕ) (s : Crossings) → i ≤ 1024 → Met s → Met (walked c i s)
-unfolding walked
-walked-inside c i s h r = pick (ltb (s .count) 5 && met (there c (i - 1)) (there c i))
+scanned-inside : (c : List Float) (i : ℕ) (s : Crossings) → i ≤ 1024 → Met s → Met (scanned c i s)
+unfolding scanned
+scanned-inside c i s h r = pick (ltb (s .count) 5 && met (there c (i - 1)) (there c i))
   where
     pick : (b : Bool) → Met (cond b (noted i s) s)
     pick true = noted-inside i s h r
     pick false = r
 
 crossings-inside : (c : List Float) → Met (crossings c)
-unfolding crossings nowhere
+unfolding crossings noCrossings
 crossings-inside c =
-    keeps Met 1024 (λ i. walked c (1 + i)) nowhere (record { lows = zeros-inside; highs = zeros-inside })
-    (λ i s h r. walked-inside c (1 + i) s (omega arith) r)
+    keeps Met 1024 (λ i. scanned c (1 + i)) noCrossings (record { lows = zeros-inside; highs = zeros-inside })
+    (λ i s h r. scanned-inside c (1 + i) s (omega arith) r)
 
 -- ---- halving
 record Ends (s : Bracket) : Type 0 where
