@@ -44,7 +44,12 @@ pub extern "C" fn g7231_lsp_freq_to_cosines(freq: &[f32; 10], cosines: &mut [f32
 }
 
 #[no_mangle]
-pub extern "C" fn g7231_lpc_analysis(window: &[f32], a: &mut [f32; 11], r: &mut [f64; 11], k2: &mut f32) -> u32
+pub extern "C" fn g7231_lpc_analysis(
+    window: &[f32],
+    a: &mut [f32; 11],
+    r: &mut [f64; 11],
+    k2: &mut f32,
+) -> u32
     ensures status { λ s. ⌜ s ≡ lpcAnalysis (now (window .entry)) .status ⌝ }
     ensures coefficients { λ s. ⌜ now (a .exit) ≡ lent s (now (a .entry)) (lpcAnalysis (now (window .entry)) .set .a) ⌝ }
     ensures sums { λ s. ⌜ now (r .exit) ≡ lent s (now (r .entry)) (lpcAnalysis (now (window .entry)) .set .r) ⌝ }

@@ -1,2 +1,3 @@
--- Laws behind the functions' proofs.
+-- Laws behind the functions' proofs, and those that callers cite.
 mod Sums
+pub mod Leading

@@ -30,15 +30,15 @@ met before here = eq before (double 0 1) || lt (before ⊠ here) (double 0 1)
 unfoldable pub noted : ℕ → Crossings → Crossings
 noted i s = record { count = s .count + 1; low = set (s .low) (s .count) (point i); high = set (s .high) (s .count) (point (i - 1)) }
 
--- walking i upward, with five enough
-unfoldable pub walked : List Float → ℕ → Crossings → Crossings
-walked c i s = cond (ltb (s .count) 5 && met (there c (i - 1)) (there c i)) (noted i s) s
+-- i goes upward, and five are enough
+unfoldable pub scanned : List Float → ℕ → Crossings → Crossings
+scanned c i s = cond (ltb (s .count) 5 && met (there c (i - 1)) (there c i)) (noted i s) s
 
-unfoldable pub nowhere : Crossings
-nowhere = record { count = 0; low = replicate 5 (double 0 1); high = replicate 5 (double 0 1) }
+unfoldable pub noCrossings : Crossings
+noCrossings = record { count = 0; low = replicate 5 (double 0 1); high = replicate 5 (double 0 1) }
 
 unfoldable pub crossings : List Float → Crossings
-crossings c = over 1 1025 (walked c) nowhere
+crossings c = over 1 1025 (scanned c) noCrossings
 
 -- ---- halving
 unfoldable pub middle : Bracket → Float

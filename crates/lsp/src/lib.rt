@@ -11,7 +11,7 @@ ghost use Rattle.quarter.specs.Quarter.{quarterTable};
 ghost use Rattle.lsp.specs.Answer.{refusedLsp, refusedLpc};
 ghost use Rattle.lsp.specs.Interpolate.{previousWeight, currentWeight, weighed, interpolateLsp};
 ghost use Rattle.lsp.specs.Polynomial.{quadratic, side, halfSum, lspToLpc};
-ghost use Rattle.lsp.specs.Chebyshev.{seeded, plusNext, minusNext, factor, rung, valueAt};
+ghost use Rattle.lsp.specs.Chebyshev.{seeded, plusNext, minusNext, factor, clenshawStep, valueAt};
 ghost use Rattle.lsp.specs.Root.{point, met, crossings, middle, halved, bracket, rootsIn};
 ghost use Rattle.lsp.specs.Pairs.{inTurn, falling, paired, lpcToLsp};
 
@@ -195,7 +195,7 @@ fn factors(f: &[f32; 6]) -> [f64; 6]
 
 // One step of Clenshaw's rule.
 fn step(x: f64, b1: f64, b2: f64, c: f64) -> f64
-    ensures { λ r. ⌜ r ≡ rung x b1 b2 c ⌝ }
+    ensures { λ r. ⌜ r ≡ clenshawStep x b1 b2 c ⌝ }
 {
     2.0 * x * b1 - b2 + c
 }
@@ -211,7 +211,7 @@ fn value_at(c: &[f64; 6], x: f64) -> f64
     x * b1 - b2 + c[0]
 }
 
-// A point of the walk, exact.
+// A point of the scan, exact.
 fn point_at(t: &[u32; 2049], i: usize) -> f64
     requires { ⌜ now t ≡ quarterTable ⌝ ∗ ⌜ i ≤ 1024 ⌝ }
     ensures { λ r. ⌜ r ≡ point i ⌝ }
@@ -251,8 +251,8 @@ fn note(s: Crossings, low: f64, high: f64) -> Crossings
     }
 }
 
-// The walk: five are enough.
-fn walk(t: &[u32; 2049], c: &[f64; 6]) -> Crossings
+// From cosine 1 down: five roots are enough.
+fn scan(t: &[u32; 2049], c: &[f64; 6]) -> Crossings
     requires { ⌜ now t ≡ quarterTable ⌝ }
     ensures { λ r. ⌜ r ≡ crossings (now (c .entry)) ⌝ }
 {
@@ -317,7 +317,7 @@ fn bracket_of(c: &[f64; 6], low: f64, high: f64) -> Bracket
 }
 
 // What is recorded of two ends, once they have been halved to s.
-fn settle(c: &[f64; 6], high: f64, s: Bracket) -> f32
+fn root_of(c: &[f64; 6], high: f64, s: Bracket) -> f32
     ensures { λ r. ⌜ r ≡ narrow (cond (eq (valueAt (now (c .entry)) high) (double 0 1)) high (middle s)) ⌝ }
 {
     if value_at(c, high) == 0.0 {
@@ -349,11 +349,11 @@ fn refine(c: &[f64; 6], s: Crossings) -> [f32; 5]
         s3 = t3;
         s4 = t4;
     }
-    let x0 = settle(c, high[0], s0);
-    let x1 = settle(c, high[1], s1);
-    let x2 = settle(c, high[2], s2);
-    let x3 = settle(c, high[3], s3);
-    let x4 = settle(c, high[4], s4);
+    let x0 = root_of(c, high[0], s0);
+    let x1 = root_of(c, high[1], s1);
+    let x2 = root_of(c, high[2], s2);
+    let x3 = root_of(c, high[3], s3);
+    let x4 = root_of(c, high[4], s4);
     [x0, x1, x2, x3, x4]
 }
 
@@ -383,11 +383,11 @@ fn pair(t: &[u32; 2049], c: &[f64; 6], d: &[f64; 6]) -> LspSet
     requires { ⌜ now t ≡ quarterTable ⌝ }
     ensures { λ r. ⌜ r ≡ paired (now (c .entry)) (now (d .entry)) ⌝ }
 {
-    let p = walk(t, c);
+    let p = scan(t, c);
     if p.count < 5 {
         return refused_lsp(7);
     }
-    let q = walk(t, d);
+    let q = scan(t, d);
     if q.count < 5 {
         return refused_lsp(7);
     }

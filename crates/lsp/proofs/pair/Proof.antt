@@ -50,18 +50,18 @@ pub pair-spec : {M : Type 1} → statement M
 pair-spec =
     tie.close
     (tie.spec
-    -- walk-requires
+    -- scan-requires
     (λ c κs. search needs)
     -- refused-lsp-requires
     (λ c κs. search needs)
     -- returns
-    (λ c. few-first _ _ _ _ (c .before .before .before .walk .ensures) (c .before .if1 .taken) (c .refused-lsp .ensures))
-    -- walk-requires-2
+    (λ c. few-first _ _ _ _ (c .before .before .before .scan .ensures) (c .before .if1 .taken) (c .refused-lsp .ensures))
+    -- scan-requires-2
     (λ c κs. search needs)
     -- refused-lsp-requires-2
     (λ c κs. search needs)
     -- returns-2
-    (λ c. few-second _ _ _ _ _ (c .before .before .before .before .before .before .walk .ensures) (c .before .before .before .before .if1 .left) (c .before .before .before .walk2 .ensures) (c .before .if2 .taken) (c .refused-lsp2 .ensures))
+    (λ c. few-second _ _ _ _ _ (c .before .before .before .before .before .before .scan .ensures) (c .before .before .before .before .if1 .left) (c .before .before .before .scan2 .ensures) (c .before .if2 .taken) (c .refused-lsp2 .ensures))
     -- refine-requires
     (λ c κs. search needs)
     -- refine-requires-2
@@ -73,6 +73,6 @@ pair-spec =
     -- refused-lsp-requires-3
     (λ c κs. search needs)
     -- returns-3
-    (λ c. rising _ _ _ _ _ _ _ _ (c .before .before .before .before .before .before .before .before .before .before .before .before .walk .ensures) (c .before .before .before .before .before .before .before .before .before .before .if1 .left) (c .before .before .before .before .before .before .before .before .before .walk2 .ensures) (c .before .before .before .before .before .before .before .if2 .left) (c .before .before .before .before .before .before .refine .ensures) (c .before .before .before .before .before .refine2 .ensures) (c .before .before .before .before .take-turns .ensures) (c .before .before .is-falling .ensures) _ (not-true _ (c .before .if3 .taken)) (c .refused-lsp3 .ensures))
+    (λ c. rising _ _ _ _ _ _ _ _ (c .before .before .before .before .before .before .before .before .before .before .before .before .scan .ensures) (c .before .before .before .before .before .before .before .before .before .before .if1 .left) (c .before .before .before .before .before .before .before .before .before .scan2 .ensures) (c .before .before .before .before .before .before .before .if2 .left) (c .before .before .before .before .before .before .refine .ensures) (c .before .before .before .before .before .refine2 .ensures) (c .before .before .before .before .take-turns .ensures) (c .before .before .is-falling .ensures) _ (not-true _ (c .before .if3 .taken)) (c .refused-lsp3 .ensures))
     -- returns-4
-    (λ c. done _ _ _ _ _ _ _ _ (c .before .before .before .before .before .before .before .before .before .before .before .walk .ensures) (c .before .before .before .before .before .before .before .before .before .if1 .left) (c .before .before .before .before .before .before .before .before .walk2 .ensures) (c .before .before .before .before .before .before .if2 .left) (c .before .before .before .before .before .refine .ensures) (c .before .before .before .before .refine2 .ensures) (c .before .before .before .take-turns .ensures) (c .before .is-falling .ensures) (not-false _ (c .if3 .left))))
+    (λ c. done _ _ _ _ _ _ _ _ (c .before .before .before .before .before .before .before .before .before .before .before .scan .ensures) (c .before .before .before .before .before .before .before .before .before .if1 .left) (c .before .before .before .before .before .before .before .before .scan2 .ensures) (c .before .before .before .before .before .before .if2 .left) (c .before .before .before .before .before .refine .ensures) (c .before .before .before .before .refine2 .ensures) (c .before .before .before .take-turns .ensures) (c .before .is-falling .ensures) (not-false _ (c .if3 .left))))

@@ -74,30 +74,30 @@ refine-spec =
       went-more 0 50 _ _ _ _ _ (c .before .before .before .before .before .loop-test .taken) (c .before .halve4 .ensures) (c .before .before .before .before .before .before .loop .inv .3),
       went-more 0 50 _ _ _ _ _ (c .before .before .before .before .before .loop-test .taken) (c .halve5 .ensures) (c .before .before .before .before .before .before .loop .inv .4),
     ))
-    -- array-read-settle
+    -- array-read-root-of
     (λ c. search needs)
-    -- settle-requires
+    -- root-of-requires
     (λ c κs. search needs)
-    -- array-read-settle-2
+    -- array-read-root-of-2
     (λ c. search needs)
-    -- settle-requires-2
+    -- root-of-requires-2
     (λ c κs. search needs)
-    -- array-read-settle-3
+    -- array-read-root-of-3
     (λ c. search needs)
-    -- settle-requires-3
+    -- root-of-requires-3
     (λ c κs. search needs)
-    -- array-read-settle-4
+    -- array-read-root-of-4
     (λ c. search needs)
-    -- settle-requires-4
+    -- root-of-requires-4
     (λ c κs. search needs)
-    -- array-read-settle-5
+    -- array-read-root-of-5
     (λ c. search needs)
-    -- settle-requires-5
+    -- root-of-requires-5
     (λ c κs. search needs)
     -- returns
     (λ c. five _ _ _ _ _ _
-    (refined _ _ 0 _ _ _ _ (c .before .before .before .before .before .loop-test .left) (c .before .before .before .before .before .before .before .before .before .before .before .bracket-of .ensures) (c .before .before .before .before .before .before .loop .inv .0) (c .before .before .before .before .settle .ensures))
-    (refined _ _ 1 _ _ _ _ (c .before .before .before .before .before .loop-test .left) (c .before .before .before .before .before .before .before .before .before .before .bracket-of2 .ensures) (c .before .before .before .before .before .before .loop .inv .1) (c .before .before .before .settle2 .ensures))
-    (refined _ _ 2 _ _ _ _ (c .before .before .before .before .before .loop-test .left) (c .before .before .before .before .before .before .before .before .before .bracket-of3 .ensures) (c .before .before .before .before .before .before .loop .inv .2) (c .before .before .settle3 .ensures))
-    (refined _ _ 3 _ _ _ _ (c .before .before .before .before .before .loop-test .left) (c .before .before .before .before .before .before .before .before .bracket-of4 .ensures) (c .before .before .before .before .before .before .loop .inv .3) (c .before .settle4 .ensures))
-    (refined _ _ 4 _ _ _ _ (c .before .before .before .before .before .loop-test .left) (c .before .before .before .before .before .before .before .bracket-of5 .ensures) (c .before .before .before .before .before .before .loop .inv .4) (c .settle5 .ensures))))
+    (refined _ _ 0 _ _ _ _ (c .before .before .before .before .before .loop-test .left) (c .before .before .before .before .before .before .before .before .before .before .before .bracket-of .ensures) (c .before .before .before .before .before .before .loop .inv .0) (c .before .before .before .before .root-of .ensures))
+    (refined _ _ 1 _ _ _ _ (c .before .before .before .before .before .loop-test .left) (c .before .before .before .before .before .before .before .before .before .before .bracket-of2 .ensures) (c .before .before .before .before .before .before .loop .inv .1) (c .before .before .before .root-of2 .ensures))
+    (refined _ _ 2 _ _ _ _ (c .before .before .before .before .before .loop-test .left) (c .before .before .before .before .before .before .before .before .before .bracket-of3 .ensures) (c .before .before .before .before .before .before .loop .inv .2) (c .before .before .root-of3 .ensures))
+    (refined _ _ 3 _ _ _ _ (c .before .before .before .before .before .loop-test .left) (c .before .before .before .before .before .before .before .before .bracket-of4 .ensures) (c .before .before .before .before .before .before .loop .inv .3) (c .before .root-of4 .ensures))
+    (refined _ _ 4 _ _ _ _ (c .before .before .before .before .before .loop-test .left) (c .before .before .before .before .before .before .before .bracket-of5 .ensures) (c .before .before .before .before .before .before .loop .inv .4) (c .root-of5 .ensures))))

@@ -1,4 +1,4 @@
--- `lsp::settle` meets its contract: the test picks what is narrowed. Assumes nothing.
+-- `lsp::root_of` meets its contract: the test picks what is narrowed. Assumes nothing.
 use mathlib.Core.Path.{_≡_, refl, sym, ap, _∙_}
 use mathlib.Core.Bool.{Bool, true, false, cond}
 use mathlib.Core.List.{List}
@@ -9,8 +9,8 @@ use Rattle.lsp.specs.declared.Bracket.{Bracket}
 use Rattle.lsp.specs.Chebyshev.{valueAt}
 use Rattle.lsp.specs.Root.{middle}
 use borrow.Author.Needs.{needs}
-use Rattle.lsp.proofs.settle.Statement.{statement}
-use Rattle.lsp.proofs.settle.Tie as tie
+use Rattle.lsp.proofs.root_of.Statement.{statement}
+use Rattle.lsp.proofs.root_of.Tie as tie
 
 end : (c : List Float) (high : Float) (s : Bracket) (v x : Float) → v ≡ valueAt c high → eq v (ofBits binary64 0) ≡ true → x ≡ narrow high → x ≡ narrow (cond (eq (valueAt c high) (double 0 1)) high (middle s))
 unfolding double round ofBits
@@ -24,8 +24,8 @@ inside c high s v x e t n =
     let u : eq (valueAt c high) (double 0 1) ≡ false = rw (← e) t in
     rw u n
 
-pub settle-spec : {M : Type 1} → statement M
-settle-spec =
+pub root-of-spec : {M : Type 1} → statement M
+root-of-spec =
     tie.close
     (tie.spec
     -- value-at-requires
