@@ -26,3 +26,4 @@ mod Signs
 pub mod Blocks
 pub mod Pattern
 pub mod Anywhere
+pub mod Parts

@@ -4,38 +4,28 @@ use mathlib.Core.Bool.{Bool, true, false}
 use mathlib.Core.List.{List}
 use Prim.Native.Nat.{ℕ, suc, _+_, _-_, _≤_, _<_, max, min}
 use native.Mathlib.Omega.{arith}
-use lib.Ieee.{Float, nan, le}
+use lib.Ieee.{Float, nan}
 use lib.ListN.{getD}
 use Rattle.float.specs.Table.{table}
 use Rattle.float.specs.Loop.{over}
-use Rattle.float.specs.Double.{_⧄_, double}
-use Rattle.pitch.specs.declared.Best.{Best}
+use Rattle.float.specs.Double.{_⧄_}
+use Rattle.lags.specs.declared.Best.{Best}
 use Rattle.pitch.specs.declared.HnsParams.{HnsParams}
-use Rattle.pitch.specs.Lags.{cross, delayed, power, gain}
-use Rattle.pitch.specs.Search.{offered, nothing, winner, preferred, greater}
-use Rattle.pitch.specs.Gate.{passes}
-use Rattle.pitch.specs.Shaping.{shapingOff, factor, shaped, settings}
-use Rattle.pitch.proofs.Turns.{squares, kept-power, own, block}
-use Rattle.pitch.proofs.Winner.{within, rules-agree, winner-outcome, outcome-below}
-use Rattle.pitch.proofs.Window.{Copy, winner-window, cross-window, power-window}
+use Rattle.lags.specs.Lags.{cross, delayed, power, gain}
+use Rattle.lags.specs.Search.{offered, nothing, winner, preferred, greater}
+use Rattle.pitch.specs.Shaping.{shapingOff, settled, shaped, settings}
+use Rattle.lags.proofs.Turns.{squares, kept-power, own, block}
+use Rattle.lags.proofs.Winner.{within, rules-agree, winner-outcome, outcome-below}
+use Rattle.lags.proofs.Window.{Copy, winner-window, cross-window, power-window}
 
--- ---- the four ends
-module _ (f : List Float) (o : ℕ) (s : Best) (r : HnsParams) where
-  pub off-none : r ≡ shapingOff → s .found ≡ false → r ≡ shaped f o s
-  unfolding shaped
-  off-none e h = rw h e
+-- ---- both ends
+pub unfound : (f : List Float) (o : ℕ) (s : Best) (r : HnsParams) → r ≡ shapingOff → s .found ≡ false → r ≡ shaped f o s
+unfolding shaped settled
+unfound f o s r e h = rw h e
 
-  pub off-energy : (e : Float) → r ≡ shapingOff → s .found ≡ true → e ≡ power f o 60 0 → le e (double 0 1) ≡ true → r ≡ shaped f o s
-  unfolding shaped
-  off-energy e q h p l = rw (h, ← p, l) q
-
-  pub off-gate : (e : Float) → r ≡ shapingOff → s .found ≡ true → e ≡ power f o 60 0 → le e (double 0 1) ≡ false → passes (s .ratio) e ≡ false → r ≡ shaped f o s
-  unfolding shaped
-  off-gate e q h p l g = rw (h, ← p, l, g) q
-
-  pub on : (e g : Float) → s .found ≡ true → e ≡ power f o 60 0 → le e (double 0 1) ≡ false → passes (s .ratio) e ≡ true → g ≡ gain f o 60 (s .lag) → r ≡ record { lag = s .lag; beta = factor g } → r ≡ shaped f o s
-  unfolding shaped
-  on e g h p l t q k = rw (h, ← p, l, t, ← q) k
+pub found : (f : List Float) (o : ℕ) (s : Best) (r : HnsParams) (e g : Float) → e ≡ power f o 60 0 → g ≡ gain f o 60 (s .lag) → r ≡ settled s e g → r ≡ shaped f o s
+unfolding shaped
+found f o s r e g p q h = h ∙ ap (λ (z : Float). settled s z g) p ∙ ap (settled s (power f o 60 0)) q
 
 -- ---- the winner that the code finds
 pub shaping-winner : (x q c p : List Float) (n limit l from : ℕ) (s : Best)

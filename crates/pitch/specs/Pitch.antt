@@ -8,7 +8,7 @@ use lib.ListN.{length, take}
 use Rattle.float.specs.Finite.{notFinite}
 use Rattle.float.specs.Refusal.{first, answer}
 use Rattle.pitch.specs.declared.OpenLoop.{OpenLoop}
-use Rattle.pitch.specs.Search.{winner, preferred}
+use Rattle.lags.specs.Search.{winner, preferred}
 
 unfoldable pub refusedPitch : ℕ → OpenLoop
 refusedPitch n = record { status = n; lag = 0 }

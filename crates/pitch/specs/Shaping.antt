@@ -11,11 +11,11 @@ use Rattle.float.specs.Refusal.{first, answer}
 use Rattle.float.specs.Single.{_⊗_, single}
 use Rattle.float.specs.Double.{double}
 use Rattle.float.specs.Narrow.{narrow}
-use Rattle.pitch.specs.declared.Best.{Best}
+use Rattle.lags.specs.declared.Best.{Best}
 use Rattle.pitch.specs.declared.HnsParams.{HnsParams}
 use Rattle.pitch.specs.declared.Shaping.{Shaping}
-use Rattle.pitch.specs.Lags.{power, gain}
-use Rattle.pitch.specs.Search.{winner, greater}
+use Rattle.lags.specs.Lags.{power, gain}
+use Rattle.lags.specs.Search.{winner, greater}
 use Rattle.pitch.specs.Gate.{passes}
 
 -- lag 18 with factor 0
@@ -31,11 +31,12 @@ unfoldable pub factor : Float → Float
 factor g = single 5 16 ⊗ narrow (held g)
 
 -- no lag counted, E ≤ 0 or a failed gate: shaping off
+unfoldable pub settled : Best → Float → Float → HnsParams
+settled best e g = cond (not (best .found) || le e (double 0 1) || not (passes (best .ratio) e)) shapingOff (record { lag = best .lag; beta = factor g })
+
+-- E is the subframe's sum of squares, and the gain is the winner's
 unfoldable pub shaped : List Float → ℕ → Best → HnsParams
-shaped f o best =
-    let e = power f o 60 0 in
-    cond (not (best .found) || le e (double 0 1) || not (passes (best .ratio) e)) shapingOff
-    (record { lag = best .lag; beta = factor (gain f o 60 (best .lag)) })
+shaped f o best = settled best (power f o 60 0) (gain f o 60 (best .lag))
 
 -- lags l−3..l+3 held to 18..limit + 3
 unfoldable pub settings : ℕ → List Float → ℕ → ℕ → HnsParams

@@ -10,10 +10,11 @@ use lib.Ieee.{Float}
 use lib.Ieee.Scale.{finite}
 use lib.ListN.{length, take, drop}
 use Rattle.float.specs.Refusal.{all}
+use Rattle.float.proofs.Parts.{passes}
 use Rattle.pitch.specs.declared.HnsParams.{HnsParams}
 use Rattle.pitch.specs.declared.Shaping.{Shaping}
 use Rattle.pitch.specs.Shaping.{settings, refusedShaping, harmonicNoiseShaping}
-use Rattle.pitch.proofs.Window.{Copy, copied}
+use Rattle.lags.proofs.Window.{Copy, copied}
 use Rattle.pitch.proofs.Settings.{settings-window}
 use Rattle.pitch.proofs.harmonic_noise_shaping.Statement.{statement}
 use Rattle.pitch.proofs.harmonic_noise_shaping.Tie as tie
@@ -95,12 +96,12 @@ harmonic-noise-shaping-spec =
     -- returns-6
     (λ c. not-finite 142 _ _ _ _ (c .refused-shaping6 .ensures) (c .before .before .before .before .before .before .before .before .if1 .left) (c .before .before .before .before .before .before .before .if2 .left) (c .before .before .before .before .before .before .if3 .left) (omega (arith, c .before .before .before .before .if5 .left, c .before .before .before .before .before .if4 .left))
     (sym (c .before .before .all-finite .ensures) ∙ not-true _ (c .before .if6 .taken)))
-    -- widened-requires
-    (λ c κs. search needs)
-    -- squared-requires
+    -- widen-requires
+    (λ c κs. (search needs, (search needs, passes _ (sym (c .before .before .all-finite .ensures) ∙ not-false _ (c .before .if6 .left)))))
+    -- square-requires
     (λ c κs. search needs)
     -- shaping-in-requires
     (λ c κs. search needs)
     -- returns-7
-    (λ c. done 142 _ _ _ _ _ _ refl (c .before .before .before .before .before .before .before .before .before .before .before .before .before .if1 .left) (c .before .before .before .before .before .before .before .before .before .before .before .before .if2 .left) (c .before .before .before .before .before .before .before .before .before .before .before .if3 .left) (omega (arith, c .before .before .before .before .before .before .before .before .before .if5 .left, c .before .before .before .before .before .before .before .before .before .before .if4 .left))
-    (sym (c .before .before .before .before .before .before .before .all-finite .ensures) ∙ not-false _ (c .before .before .before .before .before .before .if6 .left)) (c .before .before .before .before .before .widened .ensures) (c .shaping-in .ensures)))
+    (λ c. done 142 _ _ _ _ _ _ refl (c .before .before .before .before .before .before .before .before .before .before .before .before .before .before .before .if1 .left) (c .before .before .before .before .before .before .before .before .before .before .before .before .before .before .if2 .left) (c .before .before .before .before .before .before .before .before .before .before .before .before .before .if3 .left) (omega (arith, c .before .before .before .before .before .before .before .before .before .before .before .if5 .left, c .before .before .before .before .before .before .before .before .before .before .before .before .if4 .left))
+    (sym (c .before .before .before .before .before .before .before .before .before .all-finite .ensures) ∙ not-false _ (c .before .before .before .before .before .before .before .before .if6 .left)) (c .before .before .before .before .before .before .widen .ensures) (c .shaping-in .ensures)))

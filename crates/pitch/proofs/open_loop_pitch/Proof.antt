@@ -7,15 +7,17 @@ use mathlib.Core.Path.{_≡_, refl, sym, ap, _∙_}
 use mathlib.Core.Bool.{Bool, true, false}
 use mathlib.Core.List.{List}
 use Prim.Native.Nat.{ℕ, suc, _+_, _-_, _*_, _≤_, _<_}
+use lib.Dec.{T}
 use lib.Ieee.{Float}
 use lib.Ieee.Scale.{finite}
 use lib.ListN.{length, take, drop}
 use Rattle.float.specs.Refusal.{all}
-use Rattle.pitch.specs.declared.Best.{Best}
+use Rattle.float.proofs.Parts.{passes, all-part}
+use Rattle.lags.specs.declared.Best.{Best}
 use Rattle.pitch.specs.declared.OpenLoop.{OpenLoop}
-use Rattle.pitch.specs.Search.{winner, preferred}
+use Rattle.lags.specs.Search.{winner, preferred}
 use Rattle.pitch.specs.Pitch.{refusedPitch, start, openLoopPitch}
-use Rattle.pitch.proofs.Window.{Copy, copied, winner-window}
+use Rattle.lags.proofs.Window.{Copy, copied, winner-window}
 use Rattle.pitch.proofs.open_loop_pitch.Statement.{statement}
 use Rattle.pitch.proofs.open_loop_pitch.Tie as tie
 
@@ -43,6 +45,10 @@ module _ (limit : ℕ) (w : List Float) (half : ℕ) where
       let p : m ≤ o = omega arith in
       let r : Copy x w (o - m) (m + 120) = copied x w (o - m) (m + 120) (o + 120) (omega arith) l e in
       rw (le-ltb 1 half h, le-ltb (length w) (o + 120) l, rw sub-zero at f, s, winner-window x w m o 120 p r preferred 18 (suc limit) (omega arith))
+
+-- what is read is part of what was looked at
+part-finite : (w : List Float) (a e : ℕ) → a ≤ e → all finite (take (e - 0) w) ≡ true → T (all finite (take (e - a) (drop a w)))
+part-finite w a e h f = all-part finite w a (e - a) e (omega arith) (passes _ (rw sub-zero at f))
 
 pub open-loop-pitch-spec : {M : Type 1} → statement M
 open-loop-pitch-spec =
@@ -75,23 +81,23 @@ open-loop-pitch-spec =
     -- returns-3
     (λ c. not-finite 142 _ _ _ (c .refused-pitch3 .ensures) (c .before .before .before .before .before .if1 .left) (c .before .before .before .before .if2 .left)
     (sym (c .before .before .all-finite .ensures) ∙ not-true _ (c .before .if3 .taken)))
-    -- sub-widened
+    -- sub-widen
     (λ c. search needs)
-    -- mul-widened
+    -- mul-widen
     (λ c. search needs)
-    -- sub-widened-2
+    -- sub-widen-2
     (λ c. search needs)
-    -- part-widened-start
+    -- part-widen-start
     (λ c. search needs)
-    -- part-widened-end
+    -- part-widen-end
     (λ c. search needs)
-    -- widened-requires
-    (λ c κs. search needs)
-    -- squared-requires
+    -- widen-requires
+    (λ c κs. (search needs, (search needs, part-finite (c .before .before .before .before .before .before .before .before .args .wbuf .now) (145 + 120 * c .before .before .before .before .before .before .before .before .args .half - 145) (145 + 120 * c .before .before .before .before .before .before .before .before .args .half + 120) (omega arith) (sym (c .before .before .before .all-finite .ensures) ∙ not-false _ (c .before .before .if3 .left)))))
+    -- square-requires
     (λ c κs. search needs)
     -- search-in-requires
     (λ c κs. search needs)
     -- returns-4
-    (λ c. found 142 _ _ _ _ (c .before .before .before .before .before .before .before .before .before .before .before .if1 .left) (c .before .before .before .before .before .before .before .before .before .before .if2 .left)
-    (sym (c .before .before .before .before .before .before .before .before .all-finite .ensures) ∙ not-false _ (c .before .before .before .before .before .before .before .if3 .left))
-    (c .before .before .before .before .before .widened .ensures) (c .search-in .ensures)))
+    (λ c. found 142 _ _ _ _ (c .before .before .before .before .before .before .before .before .before .before .before .before .before .if1 .left) (c .before .before .before .before .before .before .before .before .before .before .before .before .if2 .left)
+    (sym (c .before .before .before .before .before .before .before .before .before .before .all-finite .ensures) ∙ not-false _ (c .before .before .before .before .before .before .before .before .before .if3 .left))
+    (c .before .before .before .before .before .before .widen .ensures) (c .search-in .ensures)))

@@ -13,9 +13,9 @@ use Rattle.float.specs.Loop.{times, over}
 use Rattle.float.specs.Double.{_⊠_, double}
 use Rattle.float.proofs.Loop.{keeps}
 use Rattle.float.proofs.Blocks.{same-reached}
-use Rattle.pitch.specs.declared.Best.{Best}
-use Rattle.pitch.specs.Lags.{cross, power, positive, counts, ratioOf, ratio}
-use Rattle.pitch.specs.Search.{Rule, nothing, challenged, offered, winner, preferred, greater}
+use Rattle.lags.specs.declared.Best.{Best}
+use Rattle.lags.specs.Lags.{cross, power, positive, counts, ratioOf, ratio}
+use Rattle.lags.specs.Search.{Rule, nothing, challenged, offered, winner, preferred, greater}
 
 -- the winner s among the lags a, .., b - 1 with those sums
 pub record Chosen (num den : ℕ → Float) (a b : ℕ) (s : Best) : Type 0 where

@@ -1,13 +1,13 @@
--- `pitch::energy` meets its contract: the sum of the squares passed, at lag 0. Assumes nothing.
+-- `lags::energy` meets its contract: the sum of the squares passed, at lag 0. Assumes nothing.
 use borrow.Author.Needs.{needs}
 use native.Mathlib.Omega.{arith}
 use mathlib.Core.Path.{_≡_}
 use Prim.Native.Nat.{_-_, _≤_}
 use lib.Ieee.{ofBits}
-use Rattle.pitch.specs.Lags.{delayed}
-use Rattle.pitch.proofs.Sums.{delayed-none, delayed-more, delayed-all}
-use Rattle.pitch.proofs.energy.Statement.{statement}
-use Rattle.pitch.proofs.energy.Tie as tie
+use Rattle.lags.specs.Lags.{delayed}
+use Rattle.lags.proofs.Sums.{delayed-none, delayed-more, delayed-all}
+use Rattle.lags.proofs.energy.Statement.{statement}
+use Rattle.lags.proofs.energy.Tie as tie
 
 abbrev Inv-loop : tie.InvT-loop
 Inv-loop squares o count sum₀ n₀ sum n = (n ≤ count) × (sum ≡ delayed squares o n 0)

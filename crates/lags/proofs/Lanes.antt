@@ -9,8 +9,8 @@ use lib.IntN.{pos}
 use lib.Ieee.{Float, nan, fin, binary64, add, mul}
 use lib.ListN.{getD}
 use Rattle.float.specs.Table.{table}
-use Rattle.pitch.specs.Lags.{cross, delayed}
-use Rattle.pitch.proofs.Sums.{cross-none, cross-more, cross-all, delayed-none, delayed-more, delayed-all}
+use Rattle.lags.specs.Lags.{cross, delayed}
+use Rattle.lags.proofs.Sums.{cross-none, cross-more, cross-all, delayed-none, delayed-more, delayed-all}
 
 pub record Lanes (x q : List Float) (o count lag n : ℕ) (a0 a1 a2 a3 a4 a5 a6 a7 b0 b1 b2 b3 b4 b5 b6 b7 : Float) : Type 0 where
   pub bound : n ≤ count

@@ -1,12 +1,12 @@
--- `pitch::eight_lags` meets its contract: each of the sixteen sums is its own. Assumes nothing.
+-- `lags::eight_lags` meets its contract: each of the sixteen sums is its own. Assumes nothing.
 use borrow.Author.Needs.{needs}
 use native.Mathlib.Omega.{arith}
 use mathlib.Core.Path.{_≡_, refl}
 use Prim.Native.Nat.{_+_, _-_, _≤_}
 use lib.Ieee.{ofBits}
-use Rattle.pitch.proofs.Lanes.{Lanes, lanes-none, lanes-more, lanes-cross, lanes-power}
-use Rattle.pitch.proofs.eight_lags.Statement.{statement}
-use Rattle.pitch.proofs.eight_lags.Tie as tie
+use Rattle.lags.proofs.Lanes.{Lanes, lanes-none, lanes-more, lanes-cross, lanes-power}
+use Rattle.lags.proofs.eight_lags.Statement.{statement}
+use Rattle.lags.proofs.eight_lags.Tie as tie
 
 abbrev Inv-loop : tie.InvT-loop
 Inv-loop x squares o count lag a0₀ a1₀ a2₀ a3₀ a4₀ a5₀ a6₀ a7₀ b0₀ b1₀ b2₀ b3₀ b4₀ b5₀ b6₀ b7₀ from n₀ a0 a1 a2 a3 a4 a5 a6 a7 b0 b1 b2 b3 b4 b5 b6 b7 n = (from ≡ o - lag - 7) × Lanes x squares o count lag n a0 a1 a2 a3 a4 a5 a6 a7 b0 b1 b2 b3 b4 b5 b6 b7

@@ -15,9 +15,9 @@ use Rattle.float.specs.Double.{_⊠_}
 use Rattle.float.proofs.Table.{at-table}
 use Rattle.float.proofs.Loop.{Went, same-times}
 use Rattle.float.proofs.Blocks.{went-on}
-use Rattle.pitch.specs.declared.Best.{Best}
-use Rattle.pitch.specs.Lags.{cross, delayed, power}
-use Rattle.pitch.specs.Search.{Rule, offered}
+use Rattle.lags.specs.declared.Best.{Best}
+use Rattle.lags.specs.Lags.{cross, delayed, power}
+use Rattle.lags.specs.Search.{Rule, offered}
 
 -- the squares, as the code keeps them
 abbrev pub squares : List Float → ℕ → Float

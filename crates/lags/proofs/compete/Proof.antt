@@ -1,4 +1,4 @@
--- `pitch::compete` meets its contract: up to lag each has been offered. Assumes nothing.
+-- `lags::compete` meets its contract: up to lag each has been offered. Assumes nothing.
 use borrow.Author.Needs.{needs}
 use native.Mathlib.Omega.{arith}
 use mathlib.Core.Path.{_≡_, refl, sym, ap, _∙_}
@@ -7,13 +7,13 @@ use Prim.Native.Nat.{ℕ, _+_, _-_, _≤_, _<_}
 use mathlib.Core.Bool.{true, false}
 use lib.Ieee.{Float, nan, lt, round, ofBits}
 use Rattle.float.specs.Double.{double}
-use Rattle.pitch.specs.declared.Best.{Best}
-use Rattle.pitch.specs.Lags.{ratioOf}
+use Rattle.lags.specs.declared.Best.{Best}
+use Rattle.lags.specs.Lags.{ratioOf}
 use lib.ListN.{getD}
 use Rattle.float.proofs.Loop.{Went, went-none, went-more, went-all}
-use Rattle.pitch.specs.Search.{challenged, offered, preferred}
-use Rattle.pitch.proofs.compete.Statement.{statement}
-use Rattle.pitch.proofs.compete.Tie as tie
+use Rattle.lags.specs.Search.{challenged, offered, preferred}
+use Rattle.lags.proofs.compete.Statement.{statement}
+use Rattle.lags.proofs.compete.Tie as tie
 
 abbrev Inv-loop : tie.InvT-loop
 Inv-loop first from to sums b₀ lag₀ b lag =

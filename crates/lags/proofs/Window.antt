@@ -12,9 +12,9 @@ use lib.Seq.{getD-take, getD-drop, length-take-le}
 use Rattle.float.specs.Loop.{times, over}
 use Rattle.float.specs.Double.{_⊠_}
 use Rattle.float.proofs.Loop.{same-times}
-use Rattle.pitch.specs.declared.Best.{Best}
-use Rattle.pitch.specs.Lags.{cross, power}
-use Rattle.pitch.specs.Search.{Rule, offered, nothing, winner}
+use Rattle.lags.specs.declared.Best.{Best}
+use Rattle.lags.specs.Lags.{cross, power}
+use Rattle.lags.specs.Search.{Rule, offered, nothing, winner}
 
 -- x begins with the n samples of w from place a on
 pub record Copy (x w : List Float) (a n : ℕ) : Type 0 where

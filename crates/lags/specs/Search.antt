@@ -7,8 +7,8 @@ use lib.Dec.{ltb}
 use lib.Ieee.{Float, lt}
 use Rattle.float.specs.Loop.{over}
 use Rattle.float.specs.Double.{_⊠_, double}
-use Rattle.pitch.specs.declared.Best.{Best}
-use Rattle.pitch.specs.Lags.{cross, power, positive, ratioOf}
+use Rattle.lags.specs.declared.Best.{Best}
+use Rattle.lags.specs.Lags.{cross, power, positive, ratioOf}
 
 -- whether a lag with that ratio beats the winner so far
 abbrev pub Rule : Type 0

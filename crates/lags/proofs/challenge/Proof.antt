@@ -1,11 +1,11 @@
--- `pitch::challenge` meets its contract: each answer is the rule's at the tests that led to it. Assumes nothing.
+-- `lags::challenge` meets its contract: each answer is the rule's at the tests that led to it. Assumes nothing.
 use borrow.Author.Needs.{needs}
 use borrow.Author.Tests.{lt-ltb, le-ltb}
 use lib.Ieee.{round, ofBits}
 use Rattle.float.specs.Double.{double}
-use Rattle.pitch.specs.Search.{challenged, preferred}
-use Rattle.pitch.proofs.challenge.Statement.{statement}
-use Rattle.pitch.proofs.challenge.Tie as tie
+use Rattle.lags.specs.Search.{challenged, preferred}
+use Rattle.lags.proofs.challenge.Statement.{statement}
+use Rattle.lags.proofs.challenge.Tie as tie
 
 pub challenge-spec : {M : Type 1} → statement M
 unfolding challenged preferred double round ofBits

@@ -1,4 +1,4 @@
--- `pitch::squared` meets its contract: the first i places hold their squares. Assumes nothing.
+-- `lags::square` meets its contract: the first i places hold their squares. Assumes nothing.
 use borrow.Author.Needs.{needs}
 use mathlib.Core.Path.{refl}
 use Prim.Native.Nat.{_-_}
@@ -6,23 +6,23 @@ use lib.Ieee.{nan}
 use lib.ListN.{getD}
 use Rattle.float.specs.Double.{_⊠_}
 use Rattle.float.proofs.Table.{Filled, filled-none, filled-more, filled-all}
-use Rattle.pitch.proofs.squared.Statement.{statement}
-use Rattle.pitch.proofs.squared.Tie as tie
+use Rattle.lags.proofs.square.Statement.{statement}
+use Rattle.lags.proofs.square.Tie as tie
 
 abbrev Inv-loop : tie.InvT-loop
-Inv-loop x out₀ i₀ out i = Filled 265 (λ k. getD x k nan ⊠ getD x k nan) i out
+Inv-loop out₀ x i₀ out i = Filled 265 (λ k. getD x k nan ⊠ getD x k nan) i out
 
 abbrev μ-loop : tie.MeasureT-loop
-μ-loop x out₀ i₀ out i = 265 - i
+μ-loop out₀ x i₀ out i = 265 - i
 
-pub squared-spec : {M : Type 1} → statement M
-squared-spec =
+pub square-spec : {M : Type 1} → statement M
+square-spec =
     tie.close
     (tie.spec
     Inv-loop
     μ-loop
     -- loop-holds
-    (λ c. filled-none 265 _ _ refl)
+    (λ c. filled-none 265 _ _ (c .pre))
     -- mul-out
     (λ c. search needs)
     -- element-copy-out-out
@@ -33,7 +33,7 @@ squared-spec =
     (λ c. search needs)
     -- mul-out-3
     (λ c. search needs)
-    -- array-write-out
+    -- element-write-out
     (λ c. search needs)
     -- add-i
     (λ c. search needs)

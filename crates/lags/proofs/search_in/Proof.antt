@@ -1,4 +1,4 @@
--- `pitch::search_in` meets its contract: each turn offers up to eight lags more. Assumes nothing.
+-- `lags::search_in` meets its contract: each turn offers up to eight lags more. Assumes nothing.
 use borrow.Author.Needs.{needs}
 use native.Mathlib.Omega.{arith}
 use mathlib.Core.Path.{_≡_, refl, sym, ap, _∙_}
@@ -7,11 +7,11 @@ use lib.Ieee.{round, ofBits}
 use Rattle.float.specs.Double.{double}
 use Rattle.float.specs.Loop.{over}
 use Rattle.float.proofs.Loop.{Went, went-none, went-all}
-use Rattle.pitch.specs.declared.Best.{Best}
-use Rattle.pitch.specs.Search.{winner, preferred, nothing}
-use Rattle.pitch.proofs.Turns.{offer, block, turn}
-use Rattle.pitch.proofs.search_in.Statement.{statement}
-use Rattle.pitch.proofs.search_in.Tie as tie
+use Rattle.lags.specs.declared.Best.{Best}
+use Rattle.lags.specs.Search.{winner, preferred, nothing}
+use Rattle.lags.proofs.Turns.{offer, block, turn}
+use Rattle.lags.proofs.search_in.Statement.{statement}
+use Rattle.lags.proofs.search_in.Tie as tie
 
 abbrev Inv-loop : tie.InvT-loop
 Inv-loop x squares limit best₀ lag₀ best lag = (18 ≤ lag) × (lag ≤ limit + 8) × Went 18 (suc limit) (offer preferred x (limit + 3) 120) nothing (min lag (suc limit)) best
