@@ -15,3 +15,4 @@ pub mod Patterns
 mod Narrowing
 mod Signs
 pub mod Pattern
+pub mod Refusal
