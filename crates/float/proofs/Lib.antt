@@ -27,3 +27,4 @@ pub mod Blocks
 pub mod Pattern
 pub mod Anywhere
 pub mod Parts
+pub mod Refusal

@@ -14,7 +14,7 @@ use Rattle.float.specs.Table.{table}
 pub length-table : {A : Type 0} (n : ℕ) (f : ℕ → A) → length (table n f) ≡ n
 unfolding table
 length-table zero f = refl
-length-table (suc n) f = length-append (table n f) (f n ∷ []) ∙ ap (λ (k : ℕ). k + 1) (length-table n f) ∙ add-one n
+length-table (suc n) f = rw (length-append, length-table n f) (add-one n)
 
 -- what stands at a place
 pub at-table : {A : Type 0} (n : ℕ) (f : ℕ → A) (i : ℕ) (d : A) → i < n → getD (table n f) i d ≡ f i
