@@ -11,7 +11,13 @@ ghost use Rattle.pitch.specs.Shaping.{harmonicNoiseShaping};
 ghost use Rattle.lsp.specs.Interpolate.{interpolateLsp};
 ghost use Rattle.lsp.specs.Polynomial.{lspToLpc};
 ghost use Rattle.lsp.specs.Pairs.{lpcToLsp};
+ghost use Rattle.spec_tables.specs.Codebook.{lspRows};
+ghost use Rattle.spec_lsp.specs.Quantise.{quantiseLspFreq};
+ghost use Rattle.spec_lsp.specs.Decode.{decodeLspFreq};
+ghost use Rattle.combined.specs.Cascade.{settings};
+ghost use Rattle.combined.specs.Run.{runCombined, impulseResponse};
 ghost use Rattle.c_api.specs.Lent.{lent, flag};
+ghost use Rattle.c_api.specs.Memory.{memory};
 
 #[no_mangle]
 pub extern "C" fn g7231_lsp_cosines_to_freq(cosines: &[f32; 10], freq: &mut [f32; 10]) -> u32
@@ -168,7 +174,12 @@ pub extern "C" fn g7231_lpc_to_lsp(a: &[f32; 11], lsp: &mut [f32; 10]) -> u32
 }
 
 #[no_mangle]
-pub extern "C" fn g7231_interpolate_lsp(choice: usize, prev: &[f32; 10], cur: &[f32; 10], out: &mut [f32; 10]) -> u32
+pub extern "C" fn g7231_interpolate_lsp(
+    choice: usize,
+    prev: &[f32; 10],
+    cur: &[f32; 10],
+    out: &mut [f32; 10],
+) -> u32
     ensures status { λ r. ⌜ r ≡ interpolateLsp choice (now (prev .entry)) (now (cur .entry)) .status ⌝ }
     ensures lines { λ r. ⌜ now (out .exit) ≡ lent r (now (out .entry)) (interpolateLsp choice (now (prev .entry)) (now (cur .entry)) .lsp) ⌝ }
 {
@@ -216,6 +227,121 @@ pub extern "C" fn g7231_harmonic_noise_shaping(
         let params = answer.params;
         *lag = params.lag;
         *beta = params.beta;
+    }
+    status
+}
+
+#[no_mangle]
+pub extern "C" fn g7231_quantise_lsp_freq(
+    p: &[f32; 10],
+    prev: &[f32; 10],
+    index: &mut u32,
+    set: &mut [f32; 10],
+) -> u32
+    ensures status { λ r. ⌜ r ≡ quantiseLspFreq lspRows (now (p .entry)) (now (prev .entry)) .status ⌝ }
+    ensures index { λ r. ⌜ now (index .exit) ≡ lent r (now (index .entry)) (quantiseLspFreq lspRows (now (p .entry)) (now (prev .entry)) .index) ⌝ }
+    ensures lines { λ r. ⌜ now (set .exit) ≡ lent r (now (set .entry)) (quantiseLspFreq lspRows (now (p .entry)) (now (prev .entry)) .set) ⌝ }
+{
+    let given = *p;
+    let last = *prev;
+    let answer = spec_lsp::quantise::quantise_lsp_freq(given, last);
+    let status = answer.status;
+    if status == 0 {
+        let lines = answer.set;
+        *index = answer.index;
+        *set = lines;
+    }
+    status
+}
+
+#[no_mangle]
+pub extern "C" fn g7231_decode_lsp_freq(index: u32, prev: &[f32; 10], set: &mut [f32; 10]) -> u32
+    ensures status { λ r. ⌜ r ≡ decodeLspFreq lspRows index (now (prev .entry)) .status ⌝ }
+    ensures lines { λ r. ⌜ now (set .exit) ≡ lent r (now (set .entry)) (decodeLspFreq lspRows index (now (prev .entry)) .set) ⌝ }
+{
+    let last = *prev;
+    let answer = spec_lsp::decode::decode_lsp_freq(index, last);
+    let status = answer.status;
+    if status == 0 {
+        let lines = answer.set;
+        *set = lines;
+    }
+    status
+}
+
+#[no_mangle]
+pub extern "C" fn g7231_run_combined(
+    syn: &mut [f32; 10],
+    wz_mem: &mut [f32; 10],
+    wp_mem: &mut [f32; 10],
+    p_hist: &mut [f32; 145],
+    input: &[f32; 60],
+    aq: &[f32; 11],
+    wz: &[f32; 10],
+    wp: &[f32; 10],
+    lag: u32,
+    beta: f32,
+    out: &mut [f32; 60],
+) -> u32
+    ensures status { λ r. ⌜ r ≡ runCombined (settings (now (aq .entry)) (now (wz .entry)) (now (wp .entry)) lag beta) (now (input .entry)) (memory (now (syn .entry)) (now («wz_mem» .entry)) (now («wp_mem» .entry)) (now («p_hist» .entry))) .status ⌝ }
+    ensures synthesis { λ r. ⌜ now (syn .exit) ≡ lent r (now (syn .entry)) (runCombined (settings (now (aq .entry)) (now (wz .entry)) (now (wp .entry)) lag beta) (now (input .entry)) (memory (now (syn .entry)) (now («wz_mem» .entry)) (now («wp_mem» .entry)) (now («p_hist» .entry))) .mem .syn) ⌝ }
+    ensures zeros { λ r. ⌜ now («wz_mem» .exit) ≡ lent r (now («wz_mem» .entry)) (runCombined (settings (now (aq .entry)) (now (wz .entry)) (now (wp .entry)) lag beta) (now (input .entry)) (memory (now (syn .entry)) (now («wz_mem» .entry)) (now («wp_mem» .entry)) (now («p_hist» .entry))) .mem .wz) ⌝ }
+    ensures poles { λ r. ⌜ now («wp_mem» .exit) ≡ lent r (now («wp_mem» .entry)) (runCombined (settings (now (aq .entry)) (now (wz .entry)) (now (wp .entry)) lag beta) (now (input .entry)) (memory (now (syn .entry)) (now («wz_mem» .entry)) (now («wp_mem» .entry)) (now («p_hist» .entry))) .mem .wp) ⌝ }
+    ensures history { λ r. ⌜ now («p_hist» .exit) ≡ lent r (now («p_hist» .entry)) (runCombined (settings (now (aq .entry)) (now (wz .entry)) (now (wp .entry)) lag beta) (now (input .entry)) (memory (now (syn .entry)) (now («wz_mem» .entry)) (now («wp_mem» .entry)) (now («p_hist» .entry))) .mem .«p_hist») ⌝ }
+    ensures samples { λ r. ⌜ now (out .exit) ≡ lent r (now (out .entry)) (runCombined (settings (now (aq .entry)) (now (wz .entry)) (now (wp .entry)) lag beta) (now (input .entry)) (memory (now (syn .entry)) (now («wz_mem» .entry)) (now («wp_mem» .entry)) (now («p_hist» .entry))) .out) ⌝ }
+{
+    let mem_syn = *syn;
+    let mem_wz = *wz_mem;
+    let mem_wp = *wp_mem;
+    let mem_hist = *p_hist;
+    let mem = combined::CombinedMem {
+        syn: mem_syn,
+        wz: mem_wz,
+        wp: mem_wp,
+        p_hist: mem_hist,
+    };
+    let x = *input;
+    let a = *aq;
+    let zeros = *wz;
+    let poles = *wp;
+    let answer = combined::run_combined(mem, x, a, zeros, poles, lag, beta);
+    let status = answer.status;
+    if status == 0 {
+        let after = answer.mem;
+        let samples = answer.out;
+        let after_syn = after.syn;
+        let after_wz = after.wz;
+        let after_wp = after.wp;
+        let after_hist = after.p_hist;
+        *syn = after_syn;
+        *wz_mem = after_wz;
+        *wp_mem = after_wp;
+        *p_hist = after_hist;
+        *out = samples;
+    }
+    status
+}
+
+#[no_mangle]
+pub extern "C" fn g7231_combined_impulse_response(
+    aq: &[f32; 11],
+    wz: &[f32; 10],
+    wp: &[f32; 10],
+    lag: u32,
+    beta: f32,
+    out: &mut [f32; 60],
+) -> u32
+    ensures status { λ r. ⌜ r ≡ impulseResponse (settings (now (aq .entry)) (now (wz .entry)) (now (wp .entry)) lag beta) .status ⌝ }
+    ensures samples { λ r. ⌜ now (out .exit) ≡ lent r (now (out .entry)) (impulseResponse (settings (now (aq .entry)) (now (wz .entry)) (now (wp .entry)) lag beta) .out) ⌝ }
+{
+    let a = *aq;
+    let zeros = *wz;
+    let poles = *wp;
+    let answer = combined::combined_impulse_response(a, zeros, poles, lag, beta);
+    let status = answer.status;
+    if status == 0 {
+        let samples = answer.out;
+        *out = samples;
     }
     status
 }

@@ -3,6 +3,7 @@
 pub mod decode;
 pub mod index;
 pub mod quantise;
+
 ghost use mathlib.Core.Path.{_≡_};
 ghost use mathlib.Core.List.{map};
 ghost use mathlib.Core.Bool.{true, false};
