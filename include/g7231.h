@@ -45,6 +45,15 @@ uint32_t g7231_lsp_cosines_to_freq(const float cosines[10], float freq[10]);
  * Refuses: 5; 6 above 65,536 in magnitude. */
 uint32_t g7231_lsp_freq_to_cosines(const float freq[10], float cosines[10]);
 
+/* Quantises ten line frequencies after the previous set: a 24-bit index, and
+ * the set that the decoder makes of it, bit for bit.
+ * Refuses: 5 in either set; 6 above 65,536 in magnitude in either. */
+uint32_t g7231_quantise_lsp_freq(const float p[10], const float prev[10], uint32_t *index, float set[10]);
+
+/* The set of an index after the previous set. Bits above 24 are ignored.
+ * Refuses: 5, then 6, on the previous set. */
+uint32_t g7231_decode_lsp_freq(uint32_t index, const float prev[10], float set[10]);
+
 /* Lines at least a spacing apart, in at most ten passes; *converged is 1 where
  * a pass met no pair too close, else 0.
  * Refuses: 5; 6 for a spacing outside 0..400 Hz. */
@@ -80,6 +89,19 @@ uint32_t g7231_open_loop_pitch(const float *wbuf, size_t len, size_t half, uint3
  * from it on are missing; 5. */
 uint32_t g7231_harmonic_noise_shaping(const float *wbuf, size_t len, size_t place, uint32_t l_ol, uint32_t *lag,
                                       float *beta);
+
+/* One subframe through synthesis, weighting and harmonic filter. The first four
+ * buffers are the filter's memory: ten values each, most recent first, and the
+ * last 145 harmonic inputs, oldest first; they are moved on.
+ * Refuses: 4 for a lag outside 18..145; 5, memory included. */
+uint32_t g7231_run_combined(float syn[10], float wz_mem[10], float wp_mem[10], float p_hist[145], const float input[60],
+                            const float aq[11], const float wz[10], const float wp[10], uint32_t lag, float beta,
+                            float out[60]);
+
+/* The same filter's response to the unit impulse, from rest.
+ * Refuses: 4; 5. */
+uint32_t g7231_combined_impulse_response(const float aq[11], const float wz[10], const float wp[10], uint32_t lag,
+                                         float beta, float out[60]);
 
 #ifdef __cplusplus
 }
