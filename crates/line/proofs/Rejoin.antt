@@ -33,7 +33,8 @@ use Rattle.spec_lsp.specs.Decode.{decodeLspFreq}
 use Rattle.spec_lsp.specs.Quantise.{indexOf, quantiseBy, quantiseLspFreq}
 use Rattle.spec_lsp.proofs.Refusals.{quantise-done}
 use Rattle.line.specs.Small.{small, SmallRows}
-use Rattle.line.specs.Line.{Turn, Ends, run, arrivals, losses}
+use Rattle.line.specs.declared.Turn.{Turn}
+use Rattle.line.specs.Line.{run, arrivals, losses}
 use Rattle.line.specs.Claim.{resting, start, Ten, Rejoin}
 use Rattle.line.proofs.Held.{u, Held, held-resting, held-finite, held-bounded, held-apart, ten-held}
 use Rattle.line.proofs.Powers.{demanded, settled}

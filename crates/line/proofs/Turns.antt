@@ -16,7 +16,9 @@ use Rattle.spec_lsp.specs.Decode.{decoded, decodeLspFreq}
 use Rattle.spec_lsp.specs.Quantise.{quantisedAs, quantiseBy}
 use Rattle.spec_lsp.proofs.Refusals.{decode-done, quantised-set}
 use Rattle.line.specs.Small.{SmallRows}
-use Rattle.line.specs.Line.{Turn, Ends, sends, arrives, loses, received, step, run, tally, arrivals, losses}
+use Rattle.line.specs.declared.Turn.{Turn}
+use Rattle.line.specs.declared.Ends.{Ends}
+use Rattle.line.specs.Line.{sends, arrives, loses, received, step, run, tally, arrivals, losses}
 use Rattle.line.proofs.Held.{u, Held, held-decoded, held-finite, held-bounded, decoded-shrinks}
 use Rattle.line.proofs.Powers.{none, more}
 

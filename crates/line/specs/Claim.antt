@@ -14,7 +14,9 @@ use Rattle.float.specs.Single.{single}
 use Rattle.float.specs.Table.{table}
 use Rattle.spec_tables.specs.Tables.{dcFreq}
 use Rattle.row_search.specs.Error.{at, number}
-use Rattle.line.specs.Line.{Set, Turn, Ends, Coder, Decoder, arrives, run, arrivals, losses}
+use Rattle.line.specs.declared.Turn.{Turn}
+use Rattle.line.specs.declared.Ends.{Ends}
+use Rattle.line.specs.Line.{Set, Coder, Decoder, arrives, run, arrivals, losses}
 
 -- the resting set, at both ends before the first turn
 unfoldable pub resting : Set

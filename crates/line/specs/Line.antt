@@ -1,5 +1,6 @@
 -- The line, turn by turn (document 01, D2 to D8, D10), over any two functions of the right shape: what a turn does to the sets of both ends, a run of turns,
--- and how many of its indices arrive and are lost. Assumes nothing.
+-- and how many of its indices arrive and are lost. `Turn` (what the coder is given, and whether the line would bring its index) and `Ends` (each end's set) are the code's structs.
+-- Assumes nothing.
 use Prim.Native.Nat.{ℕ, _+_}
 use mathlib.Core.Bool.{Bool, _&&_, not, cond}
 use mathlib.Core.List.{List, [], _∷_}
@@ -7,19 +8,12 @@ use lib.Dec.{eqb}
 use lib.Ieee.{Float}
 use Rattle.spec_lsp.specs.declared.decode.LspFreq.{LspFreq}
 use Rattle.spec_lsp.specs.declared.quantise.Quantised.{Quantised}
+use Rattle.line.specs.declared.Turn.{Turn}
+use Rattle.line.specs.declared.Ends.{Ends}
+use Rattle.line.specs.declared.Played.{Played}
 
 abbrev pub Set : Type 0
 Set = List Float
-
--- what the coder is given, and whether the line would bring its index
-pub record Turn : Type 0 where
-  pub given : Set
-  pub brings : Bool
-
--- each end's set
-pub record Ends : Type 0 where
-  pub coder : Set
-  pub decoder : Set
 
 abbrev pub Coder : Type 0
 Coder = Set → Set → Quantised
@@ -63,3 +57,7 @@ arrivals quantise = tally (arrives quantise) quantise
 
 abbrev pub losses : Coder → Decoder → Ends → List Turn → ℕ
 losses quantise = tally (loses quantise) quantise
+
+-- a turn with what became of it
+unfoldable pub played : Coder → Decoder → Ends → Turn → Played
+played quantise decode ends turn = record { ends = step quantise decode ends turn; sent = sends quantise ends turn; arrived = arrives quantise ends turn }

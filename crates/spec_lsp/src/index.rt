@@ -7,11 +7,10 @@ ghost use Rattle.spec_lsp.specs.Index.{split, combine};
 pub fn split_lsp_index(index: u32) -> [u8; 3]
     ensures { λ r. ⌜ r ≡ split index ⌝ }
 {
-    [
-        (index / 65536 % 256) as u8,
-        (index / 256 % 256) as u8,
-        (index % 256) as u8,
-    ]
+    let high = (index / 65536 % 256) as u8;
+    let middle = (index / 256 % 256) as u8;
+    let low = (index % 256) as u8;
+    [high, middle, low]
 }
 
 fn wide(x: u8) -> u32
