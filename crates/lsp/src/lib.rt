@@ -287,6 +287,7 @@ struct Bracket {
     value: f64,
 }
 
+// A choice of values and not of ways, so that no branch is guessed wrong fifty times.
 fn pick(first: bool, x: f64, y: f64) -> f64
     ensures { λ r. ⌜ r ≡ cond first x y ⌝ }
 {
