@@ -140,3 +140,31 @@ pub fn matches(xs: &[f32], words: &[u32; 512], at: usize) -> bool {
     }
     true
 }
+
+// Two words as one, the high one first.
+pub fn wide(high: u32, low: u32) -> u64 {
+    (high as u64) * 4294967296 + (low as u64)
+}
+
+// x has the pattern w. A NaN has none.
+fn same_double(x: f64, w: u64) -> bool {
+    if x != x {
+        return false;
+    }
+    f64::to_bits(x) == w
+}
+
+// The patterns of xs, two words each, stand from `at` on. No sum of an accepted window is a NaN.
+pub fn doubles_match(xs: &[f64; 11], words: &[u32; 512], at: usize) -> bool {
+    if at > 480 {
+        return false;
+    }
+    let mut i = 0;
+    while i < 11 {
+        if !same_double(xs[i], wide(words[at + 2 * i], words[at + 2 * i + 1])) {
+            return false;
+        }
+        i += 1;
+    }
+    true
+}

@@ -8,6 +8,10 @@ use lib.ListN.{length, take, drop, replicate}
 use Rattle.spec_tables.specs.declared.LspBand.{LspBand}
 use Rattle.spec_tables.specs.Band.{placeOf, firstRow}
 
+-- where row `index` begins, `width` numbers to a row, in a band that starts at frequency `start`: every band has 256 rows
+abbrev pub rowPlace : ℕ → ℕ → ℕ → ℕ
+rowPlace start width index = 256 * start + index * width
+
 unfoldable pub rowAt : List ℤ → ℕ → ℕ → ℕ → List ℤ
 rowAt rows first width index = take width (drop (first + index * width) rows)
 
