@@ -55,12 +55,32 @@ fn frequency_cases(tally: Tally) -> Tally {
 }
 
 fn stage_cases(tally: Tally) -> Tally {
-    let t = case(tally, b"equal frequencies have weights of 1", stages::equal_weights());
+    let t = case(
+        tally,
+        b"equal frequencies have weights of 1",
+        stages::equal_weights(),
+    );
     let t = case(t, b"179 samples are refused with 1", stages::short_window());
-    let t = case(t, b"ratio 133 at lag 36 loses to 100 at lag 18", !stages::takes_over(36, 133.0));
-    let t = case(t, b"ratio 134 at lag 36 wins over 100 at lag 18", stages::takes_over(36, 134.0));
-    let t = case(t, b"ratio 101 at lag 35 wins over 100 at lag 18", stages::takes_over(35, 101.0));
-    case(t, b"bare filter, lag 18, factor 0.25: 1, and -0.25 at sample 18", stages::bare_filter())
+    let t = case(
+        t,
+        b"ratio 133 at lag 36 loses to 100 at lag 18",
+        !stages::takes_over(36, 133.0),
+    );
+    let t = case(
+        t,
+        b"ratio 134 at lag 36 wins over 100 at lag 18",
+        stages::takes_over(36, 134.0),
+    );
+    let t = case(
+        t,
+        b"ratio 101 at lag 35 wins over 100 at lag 18",
+        stages::takes_over(35, 101.0),
+    );
+    case(
+        t,
+        b"bare filter, lag 18, factor 0.25: 1, and -0.25 at sample 18",
+        stages::bare_filter(),
+    )
 }
 
 fn main() {

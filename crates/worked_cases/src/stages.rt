@@ -39,5 +39,7 @@ pub fn bare_filter() -> bool {
     let none = [0.0f32; 10];
     let answer = combined::combined_impulse_response(aq, none, none, 18, 0.25);
     let out = answer.out;
-    (answer.status == 0) & float::same_bits(out[0], 0x3f80_0000) & float::same_bits(out[18], 0xbe80_0000)
+    (answer.status == 0)
+        & float::same_bits(out[0], 0x3f80_0000)
+        & float::same_bits(out[18], 0xbe80_0000)
 }
