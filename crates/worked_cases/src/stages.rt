@@ -1,18 +1,15 @@
 // The stages' own cases: weights, a short window, lags that compete, and the bare filter.
 use lags::Best;
 
+fn is_one(x: f32) -> bool {
+    float::same_bits(x, 0x3f80_0000)
+}
+
 // Equal frequencies lie no distance apart, which counts as 1.
 pub fn equal_weights() -> bool {
-    let weights = spec_lsp::quantise::lsp_weights([5000.0f32; 10]);
-    let mut ones = true;
-    let mut i = 0;
-    while i < 10 {
-        if !float::same_bits(weights[i], 0x3f80_0000) {
-            ones = false;
-        }
-        i += 1;
-    }
-    ones
+    let w = spec_lsp::quantise::lsp_weights([5000.0f32; 10]);
+    let first = is_one(w[0]) & is_one(w[1]) & is_one(w[2]) & is_one(w[3]) & is_one(w[4]);
+    first & is_one(w[5]) & is_one(w[6]) & is_one(w[7]) & is_one(w[8]) & is_one(w[9])
 }
 
 pub fn short_window() -> bool {
