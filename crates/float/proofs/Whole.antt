@@ -13,8 +13,7 @@ use lib.Ieee.Exact.{HasValue}
 use lib.Ieee.Fits.{ofInt-fits}
 use lib.Ieee.Scale.{finite}
 use Rattle.float.specs.Difference.{count, plus, less}
-use Rattle.float.specs.Finite.{exceeds}
-use Rattle.float.proofs.Bound.{power}
+use Rattle.float.specs.Finite.{power, exceeds}
 use Rattle.float.proofs.Dyadic.{dyadic-exact}
 use Rattle.float.proofs.Near.{unit, Good, value-units, units-of}
 use Rattle.float.proofs.Strict.{no}

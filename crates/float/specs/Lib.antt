@@ -7,4 +7,6 @@ pub mod Single
 pub mod Double
 pub mod HalfEven
 pub mod Narrow
+pub mod Vector
+pub mod Pattern
 pub mod Difference

@@ -15,11 +15,10 @@ use lib.Ieee.{Float, nan, binary32, ofInt, round}
 use lib.Ieee.Fits.{and-l, and-r}
 use lib.Ieee.Scale.{finite}
 use Rattle.float.specs.Difference.{plus, less, difference}
-use Rattle.float.specs.Finite.{exceeds, anyExceeds}
+use Rattle.float.specs.Finite.{power, exceeds, anyExceeds}
 use Rattle.float.specs.Refusal.{all}
 use Rattle.float.specs.Single.{single}
 use Rattle.float.specs.Table.{table}
-use Rattle.float.proofs.Bound.{power}
 use Rattle.float.proofs.Near.{Good, one-side}
 use Rattle.float.proofs.Table.{length-table, at-table}
 use Rattle.float.proofs.Whole.{Whole, whole, upper, lower, units-bound}

@@ -1,0 +1,86 @@
+-- `combined::run` meets its contract: after n turns the lines are those of n samples. Assumes nothing.
+use borrow.Author.Needs.{needs}
+use mathlib.Core.Path.{refl}
+use Prim.Native.Nat.{_-_}
+use lib.ListN.{drop}
+use Rattle.combined.specs.Cascade.{settings}
+use Rattle.combined.proofs.Cascaded.{Cascaded, held, cascaded-none, cascaded-turn, cascaded-end}
+use Rattle.combined.proofs.run.Statement.{statement}
+use Rattle.combined.proofs.run.Tie as tie
+
+-- memory and input are those that the lines start with
+abbrev Inv-loop : tie.InvT-loop
+Inv-loop lag beta aq wz wp p-hist syn₀ xs₀ fs₀ n₀ syn xs fs n = Cascaded (settings aq wz wp lag beta) (drop 10 syn₀) (held p-hist syn₀ xs₀ fs₀) n syn xs fs
+
+abbrev μ-loop : tie.MeasureT-loop
+μ-loop lag beta aq wz wp p-hist syn₀ xs₀ fs₀ n₀ syn xs fs n = 60 - n
+
+pub run-spec : {M : Type 1} → statement M
+run-spec =
+    tie.close
+    (tie.spec
+    Inv-loop
+    μ-loop
+    -- slice-aggregate-delay-line
+    (λ c. search needs)
+    -- delay-line-requires
+    (λ c κs. search needs)
+    -- slice-aggregate-delay-line-2
+    (λ c. search needs)
+    -- delay-line-requires-2
+    (λ c κs. search needs)
+    -- slice-aggregate-delay-line-3
+    (λ c. search needs)
+    -- delay-line-requires-3
+    (λ c κs. search needs)
+    -- loop-holds
+    (λ c. cascaded-none _ _ _ _ _ (search needs) (search needs) (search needs) (search needs))
+    -- add-x
+    (λ c. search needs)
+    -- mul-x
+    (λ c. search needs)
+    -- array-read-x
+    (λ c. search needs)
+    -- synthesise-sample-requires
+    (λ c κs. search needs)
+    -- weight-sample-requires
+    (λ c κs. search needs)
+    -- add-syn
+    (λ c. search needs)
+    -- mul-syn
+    (λ c. search needs)
+    -- array-write-syn
+    (λ c. search needs)
+    -- add-xs
+    (λ c. search needs)
+    -- mul-xs
+    (λ c. search needs)
+    -- array-write-xs
+    (λ c. search needs)
+    -- add-fs
+    (λ c. search needs)
+    -- mul-fs
+    (λ c. search needs)
+    -- array-write-fs
+    (λ c. search needs)
+    -- add-n
+    (λ c. search needs)
+    -- loop-less
+    (λ c. search needs)
+    -- loop-again
+    (λ c. cascaded-turn _ _ _ _ _ _ _ (c .before .before .before .before .before .before .before .before .loop-test .taken) (c .before .before .before .before .before .before .before .before .before .loop .inv) _ _ _ refl (c .before .before .before .before .before .synthesise-sample .ensures) (c .weight-sample .ensures))
+    -- harmonic-inputs-requires
+    (λ c κs. search needs)
+    -- shape-requires
+    (λ c κs. search needs)
+    -- last-ten-requires
+    (λ c κs. search needs)
+    -- last-ten-requires-2
+    (λ c κs. search needs)
+    -- last-ten-requires-3
+    (λ c κs. search needs)
+    -- last-inputs-requires
+    (λ c κs. search needs)
+    -- returns
+    (λ c. cascaded-end _ _ _ _ _ _ _ _ _ _ _ _ _ _ _ _ (search needs) (c .before .before .before .before .before .before .before .before .before .before .before .before .before .before .before .delay-line .ensures) (c .before .before .before .before .before .before .before .before .before .before .before .before .before .delay-line2 .ensures) (c .before .before .before .before .before .before .before .before .before .before .before .delay-line3 .ensures) (c .before .before .before .before .before .before .before .before .before .loop-test .left)
+    (c .before .before .before .before .before .before .before .before .harmonic-inputs .ensures) (c .before .before .before .before .before .before .before .shape .ensures) (c .before .before .before .before .before .last-ten .ensures) (c .before .before .before .last-ten2 .ensures) (c .before .last-ten3 .ensures) (c .last-inputs .ensures) (c .before .before .before .before .before .before .before .before .before .before .loop .inv)))

@@ -1,0 +1,48 @@
+-- One subframe through the combined filter, and its response to the unit impulse from rest (§2.12).
+-- Document 01, B59 to B62. Assumes nothing.
+use Prim.Native.Nat.{ℕ}
+use mathlib.Core.Bool.{Bool, _||_}
+use mathlib.Core.List.{List, [], _∷_}
+use lib.Dec.{ltb}
+use lib.Ieee.{Float}
+use Rattle.float.specs.Finite.{notFinite}
+use Rattle.float.specs.Refusal.{any, first, answer}
+use Rattle.float.specs.Single.{single}
+use Rattle.float.specs.Vector.{zeros}
+use Rattle.combined.specs.declared.CombinedMem.{CombinedMem}
+use Rattle.combined.specs.declared.Combined.{Combined}
+use Rattle.combined.specs.declared.ImpulseResponse.{ImpulseResponse}
+use Rattle.combined.specs.Memory.{reach, last, atRest, floats}
+use Rattle.combined.specs.Cascade.{Settings, Cascade, cascaded}
+
+-- the memory after a subframe: its history has the last harmonic inputs
+abbrev pub after : Cascade → CombinedMem
+after c = record { syn = c .syn; wz = c .wz; wp = c .wp; «p_hist» = last reach (c .harmonic) }
+
+abbrev pub done : Cascade → Combined
+done c = record { status = 0; out = c .out; mem = after c }
+
+-- zeros, and the memory as given
+abbrev pub refusal : CombinedMem → ℕ → Combined
+refusal mem n = record { status = n; out = zeros 60; mem = mem }
+
+-- a lag that the history does not reach, or below the shortest
+abbrev pub wrongLag : ℕ → Bool
+wrongLag lag = ltb lag 18 || ltb reach lag
+
+-- a float that is infinite or not a number, anywhere
+abbrev pub wild : Settings → List Float → CombinedMem → Bool
+wild q input mem = any notFinite (floats mem) || any notFinite (input ∷ q .aq ∷ q .wz ∷ q .wp ∷ (q .beta ∷ []) ∷ [])
+
+unfoldable pub runCombined : Settings → List Float → CombinedMem → Combined
+runCombined q input mem = answer (first ((4, wrongLag (q .lag)) ∷ (5, wild q input mem) ∷ [])) (refusal mem) (done (cascaded q input mem 60))
+
+abbrev pub impulse : List Float
+impulse = single 1 1 ∷ zeros 59
+
+abbrev pub response : Combined → ImpulseResponse
+response r = record { status = r .status; out = r .out }
+
+-- from rest on the unit impulse
+unfoldable pub impulseResponse : Settings → ImpulseResponse
+impulseResponse q = response (runCombined q impulse atRest)

@@ -1,0 +1,231 @@
+// The combined filter (§2.12): synthesis, formant weighting and harmonic noise shaping of one subframe, and its impulse response.
+ghost use mathlib.Core.Path.{_≡_};
+ghost use mathlib.Core.Bool.{not};
+ghost use mathlib.Core.List.{_∷_, [], _++_};
+ghost use Prim.Native.Nat.{_<_, _≤_};
+ghost use lib.ListN.{take, drop};
+ghost use Rattle.float.specs.Finite.{notFinite};
+ghost use Rattle.float.specs.Refusal.{any};
+ghost use Rattle.float.specs.Single.{_⊖_, _⊗_};
+ghost use Rattle.float.specs.Table.{table};
+ghost use Rattle.weighting.specs.Line.{behind};
+ghost use Rattle.combined.specs.Memory.{reach, atRest, shaped, floats};
+ghost use Rattle.combined.specs.Cascade.{settings, synthesised, cascaded};
+ghost use Rattle.combined.specs.Run.{done, refusal, runCombined, impulseResponse};
+
+// How many harmonic inputs the history holds: the longest lag.
+pub const REACH: usize = 145;
+
+// The filter's memory: three memories, most recent first, and the history of harmonic inputs, oldest first.
+pub struct CombinedMem {
+    pub syn: [f32; 10],
+    pub wz: [f32; 10],
+    pub wp: [f32; 10],
+    pub p_hist: [f32; REACH],
+}
+
+impl CombinedMem {
+    // A filter at rest.
+    pub fn new() -> Self
+        ensures { λ r. ⌜ r ≡ atRest ⌝ }
+    {
+        Self {
+            syn: [0.0f32; 10],
+            wz: [0.0f32; 10],
+            wp: [0.0f32; 10],
+            p_hist: [0.0f32; REACH],
+        }
+    }
+}
+
+pub struct Combined {
+    pub status: u32,
+    pub out: [f32; 60],
+    pub mem: CombinedMem,
+}
+
+pub struct ImpulseResponse {
+    pub status: u32,
+    pub out: [f32; 60],
+}
+
+// A product taken from a sum.
+fn take_product(s: f32, a: f32, b: f32) -> f32
+    ensures { λ r. ⌜ r ≡ s ⊖ a ⊗ b ⌝ }
+{
+    s - a * b
+}
+
+// Sample n of the synthesis, x with the outputs before it.
+fn synthesise_sample(x: f32, n: usize, aq: &[f32; 11], syn: &[f32; 70]) -> f32
+    requires { ⌜ n < 60 ⌝ }
+    ensures { λ r. ⌜ r ≡ synthesised (now (aq .entry)) x (behind n (now (syn .entry))) ⌝ }
+{
+    let mut s = x;
+    for k in 0..10 {
+        s = take_product(s, aq[k + 1], syn[n + 9 - k]);
+    }
+    s
+}
+
+// The history with room for a subframe after it.
+fn start_history(p_hist: [f32; REACH]) -> [f32; REACH + 60]
+    ensures { λ r. ⌜ take reach r ≡ «p_hist» ⌝ }
+{
+    let mut p = [0.0f32; REACH + 60];
+    for i in 0..REACH {
+        p[i] = p_hist[i];
+    }
+    p
+}
+
+// All harmonic inputs: the history, and the samples of a delay line.
+fn harmonic_inputs(p_hist: [f32; REACH], line: [f32; 70]) -> [f32; REACH + 60]
+    ensures { λ r. ⌜ r ≡ «p_hist» ++ drop 10 line ⌝ }
+{
+    let mut p = start_history(p_hist);
+    for i in 0..60 {
+        p[i + REACH] = line[i + 10];
+    }
+    p
+}
+
+// Sixty samples of harmonic noise shaping.
+fn shape(p: [f32; REACH + 60], lag: usize, beta: f32) -> [f32; 60]
+    requires { ⌜ lag ≤ reach ⌝ }
+    ensures { λ r. ⌜ r ≡ table 60 (shaped lag beta p) ⌝ }
+{
+    let mut out = [0.0f32; 60];
+    for i in 0..60 {
+        out[i] = take_product(p[i + REACH], beta, p[i + REACH - lag]);
+    }
+    out
+}
+
+// The history after a subframe.
+fn last_inputs(p: [f32; REACH + 60]) -> [f32; REACH]
+    ensures { λ r. ⌜ r ≡ drop 60 p ⌝ }
+{
+    let mut p_hist = [0.0f32; REACH];
+    for i in 0..REACH {
+        p_hist[i] = p[i + 60];
+    }
+    p_hist
+}
+
+// One subframe. Each sample of the input is replaced in its line by what a stage makes of it, and nothing is moved until the subframe ends.
+fn run(
+    mem: CombinedMem,
+    input: [f32; 60],
+    aq: [f32; 11],
+    wz: [f32; 10],
+    wp: [f32; 10],
+    lag: u32,
+    beta: f32,
+) -> Combined
+    requires { ⌜ (18 ≤ lag) × (lag ≤ reach) ⌝ }
+    ensures { λ r. ⌜ r ≡ done (cascaded (settings aq wz wp lag beta) input mem 60) ⌝ }
+{
+    let syn_mem = mem.syn;
+    let wz_mem = mem.wz;
+    let wp_mem = mem.wp;
+    let p_hist = mem.p_hist;
+    let mut syn = weighting::delay_line(syn_mem, &input);
+    let mut xs = weighting::delay_line(wz_mem, &input);
+    let mut fs = weighting::delay_line(wp_mem, &input);
+    for n in 0..60 {
+        let x = syn[n + 10];
+        let s = synthesise_sample(x, n, &aq, &syn);
+        let f = weighting::weight_sample(s, n, &wz, &wp, &xs, &fs);
+        syn[n + 10] = s;
+        xs[n + 10] = s;
+        fs[n + 10] = f;
+    }
+    let p = harmonic_inputs(p_hist, fs);
+    let out = shape(p, lag as usize, beta);
+    let after = CombinedMem {
+        syn: weighting::last_ten(&syn),
+        wz: weighting::last_ten(&xs),
+        wp: weighting::last_ten(&fs),
+        p_hist: last_inputs(p),
+    };
+    Combined {
+        status: 0,
+        out,
+        mem: after,
+    }
+}
+
+fn refused(status: u32, mem: CombinedMem) -> Combined
+    ensures { λ r. ⌜ r ≡ refusal mem status ⌝ }
+{
+    Combined {
+        status,
+        out: [0.0f32; 60],
+        mem,
+    }
+}
+
+fn memory_finite(mem: CombinedMem) -> bool
+    ensures { λ r. ⌜ r ≡ not (any notFinite (floats mem)) ⌝ }
+{
+    let syn = mem.syn;
+    let wz = mem.wz;
+    let wp = mem.wp;
+    let p_hist = mem.p_hist;
+    float::all_finite(&syn)
+        & (float::all_finite(&wz) & (float::all_finite(&wp) & float::all_finite(&p_hist)))
+}
+
+fn given_finite(input: [f32; 60], aq: [f32; 11], wz: [f32; 10], wp: [f32; 10], beta: f32) -> bool
+    ensures { λ r. ⌜ r ≡ not (any notFinite (input ∷ aq ∷ wz ∷ wp ∷ (beta ∷ []) ∷ [])) ⌝ }
+{
+    let taps = float::all_finite(&wz) & (float::all_finite(&wp) & float::is_finite(beta));
+    float::all_finite(&input) & (float::all_finite(&aq) & taps)
+}
+
+// One subframe through the filter. The memory comes back; on a refusal it is as given.
+pub fn run_combined(
+    mem: CombinedMem,
+    input: [f32; 60],
+    aq: [f32; 11],
+    wz: [f32; 10],
+    wp: [f32; 10],
+    lag: u32,
+    beta: f32,
+) -> Combined
+    ensures { λ r. ⌜ r ≡ runCombined (settings aq wz wp lag beta) input mem ⌝ }
+{
+    if lag < 18 {
+        return refused(4, mem);
+    }
+    if lag > 145 {
+        return refused(4, mem);
+    }
+    let held = memory_finite(mem);
+    let given = given_finite(input, aq, wz, wp, beta);
+    let finite = held & given;
+    if !finite {
+        return refused(5, mem);
+    }
+    run(mem, input, aq, wz, wp, lag, beta)
+}
+
+// The filter's response to the unit impulse, from rest.
+pub fn combined_impulse_response(
+    aq: [f32; 11],
+    wz: [f32; 10],
+    wp: [f32; 10],
+    lag: u32,
+    beta: f32,
+) -> ImpulseResponse
+    ensures { λ r. ⌜ r ≡ impulseResponse (settings aq wz wp lag beta) ⌝ }
+{
+    let mut delta = [0.0f32; 60];
+    delta[0] = 1.0;
+    let rest = CombinedMem::new();
+    let r = run_combined(rest, delta, aq, wz, wp, lag, beta);
+    let status = r.status;
+    let out = r.out;
+    ImpulseResponse { status, out }
+}

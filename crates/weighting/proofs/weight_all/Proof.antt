@@ -1,0 +1,59 @@
+-- `weighting::weight_all` meets its contract: after n turns the line of outputs is that of n samples. Assumes nothing.
+use borrow.Author.Needs.{needs}
+use mathlib.Core.Path.{refl}
+use Prim.Native.Nat.{_-_}
+use Rattle.weighting.specs.Line.{behind}
+use Rattle.weighting.proofs.Running.{own-line, Running, running-none, running-more, running-all}
+use Rattle.weighting.proofs.weight_all.Statement.{statement}
+use Rattle.weighting.proofs.weight_all.Tie as tie
+
+-- the memories given are those of the lines at the start
+abbrev Inv-loop : tie.InvT-loop
+Inv-loop x wz wp xs fs₀ n₀ fs n = Running x wz wp (behind 0 xs) (behind 0 fs₀) n fs
+
+abbrev μ-loop : tie.MeasureT-loop
+μ-loop x wz wp xs fs₀ n₀ fs n = 60 - n
+
+pub weight-all-spec : {M : Type 1} → statement M
+weight-all-spec =
+    tie.close
+    (tie.spec
+    Inv-loop
+    μ-loop
+    -- delay-line-requires
+    (λ c κs. search needs)
+    -- delay-line-requires-2
+    (λ c κs. search needs)
+    -- loop-holds
+    (λ c. running-none _ _ _ _ _ _ (own-line (c .delay-line2 .ensures)))
+    -- add-v
+    (λ c. search needs)
+    -- mul-v
+    (λ c. search needs)
+    -- array-read-v
+    (λ c. search needs)
+    -- weight-sample-requires
+    (λ c κs. search needs)
+    -- add-fs
+    (λ c. search needs)
+    -- mul-fs
+    (λ c. search needs)
+    -- array-write-fs
+    (λ c. search needs)
+    -- add-n
+    (λ c. search needs)
+    -- loop-less
+    (λ c. search needs)
+    -- loop-again
+    (λ c. running-more _ _ _ _ _ _ _ (c .before .before .before .before .before .before .before .before .before .before .pre) (c .before .before .before .before .before .loop-test .taken) (c .before .before .before .before .before .before .loop .inv)
+    _ _ _ (own-line (c .before .before .before .before .before .before .before .before .delay-line .ensures)) refl (c .weight-sample .ensures))
+    -- samples-requires
+    (λ c κs. search needs)
+    -- last-ten-requires
+    (λ c κs. search needs)
+    -- last-ten-requires-2
+    (λ c κs. search needs)
+    -- returns
+    (λ c. running-all _ _ _ _ _ _ _ _ _ _ _ _ (c .before .before .before .before .before .before .before .before .before .before .pre)
+    (c .before .before .before .before .before .before .before .before .delay-line .ensures) (c .before .before .before .before .before .before .before .delay-line2 .ensures) (c .before .before .before .before .before .loop-test .left)
+    (c .before .before .before .before .samples .ensures) (c .before .before .last-ten .ensures) (c .last-ten2 .ensures) (c .before .before .before .before .before .before .loop .inv)))
