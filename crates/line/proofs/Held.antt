@@ -25,7 +25,7 @@ use Rattle.float.proofs.Whole.{Whole, whole, upper, lower, units-bound}
 use Rattle.spec_tables.specs.Tables.{dcFreq}
 use Rattle.row_search.specs.Error.{at, number}
 use Rattle.spec_lsp.specs.Decode.{rebuilt, bandRow, rowNumbers, decoded}
-use Rattle.line.specs.Small.{small, SmallRows}
+use Rattle.line.specs.Small.{most, small, SmallRows}
 use Rattle.line.specs.Claim.{resting, Near, Ten}
 use Rattle.line.proofs.Drift.{apart-above, apart-below, apart-most, between, below-limit}
 use Rattle.line.proofs.Each.{all-each, all-at-any, all-join, all-table, is-true}
@@ -38,12 +38,12 @@ u = 2 ^ 138
 
 -- ---- rows' numbers and resting values
 small-upper : (z : ℤ) → T (small z) → upper z ≤ 8192
-small-upper (pos n) h = leb→le n 8192 h
+small-upper (pos n) h = le-trans (leb→le n most h) (lit≤ tt)
 small-upper (negsuc n) h = lit≤ tt
 
 small-lower : (z : ℤ) → T (small z) → lower z ≤ 8192
 small-lower (pos n) h = lit≤ tt
-small-lower (negsuc n) h = ltb→lt n 8192 h
+small-lower (negsuc n) h = le-trans (ltb→lt n most h) (lit≤ tt)
 
 under : (n b : ℕ) → n ≤ b → b < 2 ^ 24 → n < 2 ^ 24
 under n b h k = lt-of-le-of-lt h k

@@ -1,6 +1,6 @@
 -- What decides the answers of the decoder and of the quantiser: a set is not finite, or exceeds 65,536, or neither. Assumes nothing.
 use mathlib.Core.Path.{_≡_, refl, sym, ap, _∙_}
-use mathlib.Core.Bool.{Bool, true, false, _||_}
+use mathlib.Core.Bool.{Bool, true, false, not, _||_}
 use mathlib.Core.List.{List, [], _∷_}
 use Prim.Native.Nat.{ℕ, _<_}
 use native.Mathlib.Omega.{arith}
@@ -11,6 +11,8 @@ use lib.Ieee.Scale.{finite}
 use Rattle.float.specs.Refusal.{all, first, answer}
 use Rattle.float.specs.Finite.{notFinite, anyExceeds}
 use Rattle.float.specs.Single.{single}
+use Rattle.spec_lsp.specs.declared.decode.LspFreq.{LspFreq}
+use Rattle.spec_lsp.specs.declared.quantise.Quantised.{Quantised}
 use Rattle.spec_lsp.specs.Decode.{refusedSet, decoded, decodeLspFreq}
 use Rattle.spec_lsp.specs.Quantise.{refusedIndex, quantisedAs, quantiseBy}
 
@@ -69,3 +71,18 @@ module _ (rows : List ℤ) (choice : List Float → List Float → ℕ) (p prev 
       go true b h = absurd (some 5 h (lit< tt))
       go false true h = absurd (some 6 h (lit< tt))
       go false false h = refl
+
+  -- and the decoder, given the index and the same previous set, answers that set
+  pub quantised-decoded : quantiseBy rows choice p prev .status ≡ 0 → decodeLspFreq rows (quantiseBy rows choice p prev .index) prev ≡ record { status = 0; set = quantiseBy rows choice p prev .set }
+  unfolding quantiseBy decodeLspFreq
+  quantised-decoded = go (all finite p) (all finite prev) (anyExceeds (single 65536 1) p) (anyExceeds (single 65536 1) prev)
+    where
+      q : (a b c d : Bool) → Quantised
+      q a b c d = answer (first ((5, not a || not b) ∷ (6, c || d) ∷ [])) refusedIndex (quantisedAs rows (choice p prev) prev)
+
+      go : (a b c d : Bool) → q a b c d .status ≡ 0 → _≡_ {A = LspFreq} (answer (first ((5, not b) ∷ (6, d) ∷ [])) refusedSet (record { status = 0; set = decoded rows (q a b c d .index) prev })) (record { status = 0; set = q a b c d .set })
+      go false b c d h = absurd (some 5 h (lit< tt))
+      go true false c d h = absurd (some 5 h (lit< tt))
+      go true true true d h = absurd (some 6 h (lit< tt))
+      go true true false true h = absurd (some 6 h (lit< tt))
+      go true true false false h = refl
