@@ -113,7 +113,8 @@ fn last_inputs(p: [f32; REACH + 60]) -> [f32; REACH]
     p_hist
 }
 
-// One subframe. Each sample of the input is replaced in its line by what a stage makes of it, and nothing is moved until the subframe ends.
+// One subframe. Each stage has a delay line in which its samples replace those of the input, and nothing is moved until the subframe ends. Synthesis
+// is one sample ahead of the weighting, so that the two sums, each a chain of its own, run side by side.
 fn run(
     mem: CombinedMem,
     input: [f32; 60],
@@ -133,14 +134,22 @@ fn run(
     let mut syn = weighting::delay_line(syn_mem, &input);
     let mut xs = weighting::delay_line(wz_mem, &input);
     let mut fs = weighting::delay_line(wp_mem, &input);
-    for n in 0..60 {
-        let x = syn[n + 10];
-        let s = synthesise_sample(x, n, &aq, &syn);
+    let x = syn[10];
+    let s = synthesise_sample(x, 0, &aq, &syn);
+    syn[10] = s;
+    xs[10] = s;
+    for n in 0..59 {
+        let s = xs[n + 10];
         let f = weighting::weight_sample(s, n, &wz, &wp, &xs, &fs);
-        syn[n + 10] = s;
-        xs[n + 10] = s;
+        let x = syn[n + 11];
+        let t = synthesise_sample(x, n + 1, &aq, &syn);
         fs[n + 10] = f;
+        syn[n + 11] = t;
+        xs[n + 11] = t;
     }
+    let s = xs[69];
+    let f = weighting::weight_sample(s, 59, &wz, &wp, &xs, &fs);
+    fs[69] = f;
     let p = harmonic_inputs(p_hist, fs);
     let out = shape(p, lag as usize, beta);
     let after = CombinedMem {
