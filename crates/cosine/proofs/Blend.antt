@@ -2,7 +2,7 @@
 use mathlib.Core.Path.{_≡_, refl, sym, ap, _∙_}
 use mathlib.Core.Logic.{inl, inr}
 use Prim.Native.Nat.{ℕ, zero, suc, _+_, _-_, _*_, _/_, _%_, _^_, _≤_, _<_, zero-le}
-use native.Mathlib.Nat.{mul-zero, mul-suc, mul-one, add-zero, mul-comm, add-comm, le-trans, le-of-eq}
+use native.Mathlib.Nat.{mul-zero, mul-suc, mul-one, add-zero, mul-comm, add-comm, le-trans, le-of-eq, eq-or-lt-of-le}
 use native.Mathlib.Omega.{arith}
 use lib.IntN.{ℤ, pos, negsuc, negℤ, _+ℤ_, _*ℤ_, *ℤ-zero, +ℤ-idr, pos-+ℤ-pos, pos-*ℤ-pos, negsuc-*ℤ-pos, negℤ-+ℤ, zero-*ℤ}
 use Rattle.quarter.specs.Quarter.{quarter, entry}
@@ -144,3 +144,20 @@ low-pos k h = above (low (suc k)) (low k) (low-falls k h)
   where
     above : (a b : ℕ) → a < b → 0 < b
     above a b l = omega arith
+
+-- ---- from one entry to the next, both ends among them
+pub low-between : (i s : ℕ) → s ≤ 4096 → low (i * 4096 + s) ≡ quarter i * (4096 - s) + quarter (suc i) * s
+unfolding low at-low
+low-between i s h = elim (eq-or-lt-of-le h) [ inl e ↦ rw (e, place-next, rest-next) (at-carry i) | inr l ↦ inside l ]
+  where
+    inside : s < 4096 → at-low ((i * 4096 + s) / 4096) ((i * 4096 + s) % 4096) ≡ at-low i s
+    inside l =
+        let e : (i * 4096 + s) / 4096 ≡ i = omega arith in
+        let f : (i * 4096 + s) % 4096 ≡ s = omega arith in
+        rw (e, f)
+
+    place-next : (i * 4096 + 4096) / 4096 ≡ suc i
+    place-next = omega arith
+
+    rest-next : (i * 4096 + 4096) % 4096 ≡ 0
+    rest-next = omega arith

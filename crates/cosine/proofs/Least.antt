@@ -19,7 +19,7 @@ pub record Least (test : ℕ → Bool) (r : ℕ) : Type 0 where
   pub passes : T (test r)
   pub before : (k : ℕ) → k < r → T (not (test k))
 
-clash : (b : Bool) → T b → T (not b) → ⊥
+pub clash : (b : Bool) → T b → T (not b) → ⊥
 clash true t u = u
 clash false t u = t
 
@@ -43,7 +43,7 @@ below test n u lo l h k i = go (test k) (u k lo i l)
     go false f = tt
 
 -- ---- halving
-above-least : (test : ℕ → Bool) (n : ℕ) → Upward test n → (d lo : ℕ) → lo + 2 ^ d ≤ n → T (not (test lo)) → T (test (lo + 2 ^ d)) → Least test (above d test lo) × (above d test lo ≤ n)
+pub above-least : (test : ℕ → Bool) (n : ℕ) → Upward test n → (d lo : ℕ) → lo + 2 ^ d ≤ n → T (not (test lo)) → T (test (lo + 2 ^ d)) → Least test (above d test lo) × (above d test lo ≤ n)
 unfolding above
 above-least test n u zero lo h p q =
     let e : lo + 1 ≡ suc lo = omega arith in (
@@ -81,7 +81,7 @@ above-least test n u (suc d) lo h p q = go (above-least test n u d) (test (lo + 
 upward : (c : Float) → Upward (reached c) (2 ^ 24)
 upward c i j h l t = le-trans-any (cosine j) (cosine i) c (cosine-falls i j h l) t
 
-minus-one : HasValue (neg (single 1 1)) true 1 1
+pub minus-one : HasValue (neg (single 1 1)) true 1 1
 unfolding neg single lib.Ieee.round
 minus-one = (refl, refl)
 

@@ -3,4 +3,10 @@ pub mod Blend
 pub mod Exact
 pub mod Monotone
 pub mod Least
+pub mod Held
+pub mod Whole
 mod Halving
+mod Segment
+pub mod Order
+mod Below
+mod Reach

@@ -20,12 +20,12 @@ folded-same k h =
     rw (e, borrow.Author.Tests.le-leb k (2 ^ 24) h)
 
 -- the value on either side of the quarter
-near : (k : ℕ) → k ≤ 2 ^ 23 → HasValue (cosine k) false (low k) (2 ^ 42)
+pub near : (k : ℕ) → k ≤ 2 ^ 23 → HasValue (cosine k) false (low k) (2 ^ 42)
 near k h =
     let e : folded k ≡ k = folded-same k (omega arith) in
     subst (λ (n : ℕ). HasValue (cosine k) false (low n) (2 ^ 42)) e (value-low k (le-trans (le-of-eq e) h))
 
-far : (k : ℕ) → 2 ^ 23 < k → k ≤ 2 ^ 24 → HasValue (cosine k) true (low (2 ^ 24 - k)) (2 ^ 42)
+pub far : (k : ℕ) → 2 ^ 23 < k → k ≤ 2 ^ 24 → HasValue (cosine k) true (low (2 ^ 24 - k)) (2 ^ 42)
 far k g h =
     let e : folded k ≡ k = folded-same k h in
     subst (λ (n : ℕ). HasValue (cosine k) true (low (2 ^ 24 - n)) (2 ^ 42)) e (value-high k (subst (λ (n : ℕ). 2 ^ 23 < n) (sym e) g))

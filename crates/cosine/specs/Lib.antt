@@ -2,3 +2,4 @@
 pub mod Cosine
 pub mod Step
 pub mod Angle
+pub mod Search

@@ -1,4 +1,4 @@
--- Step of a cosine and step of a frequency.
+-- Step of a cosine and step of a frequency, and the frequency of a step.
 -- Document 01, C6, B20 and B34. That `step` answers the least such k is proved in proofs/Least.antt. Assumes nothing.
 use mathlib.Core.Bool.{Bool, cond}
 use Prim.Native.Nat.{ℕ, zero, suc, _+_, _*_, _/_, _^_}
@@ -27,8 +27,16 @@ step c = cond (reached c 0) 0 (above 24 (reached c) 0)
 
 -- ---- of a frequency
 
+-- |x| × 2^t, rounded down
+unfoldable pub wholePart : ℕ → Float → ℕ
+wholePart t nan = 0
+wholePart t (inf s) = 0
+wholePart t (fin s m e) = m * up e * 2 ^ t / down e
+
 -- the greatest whole number ≤ 512 × |f|
 unfoldable pub stepOfFrequency : Float → ℕ
-stepOfFrequency nan = 0
-stepOfFrequency (inf s) = 0
-stepOfFrequency (fin s m e) = 512 * (m * up e) / down e
+stepOfFrequency f = wholePart 9 f
+
+-- a step as a frequency: k / 512
+unfoldable pub frequency : ℕ → Float
+frequency k = single k 512

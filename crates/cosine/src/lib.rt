@@ -1,10 +1,16 @@
 // The cosine rule of document 01: whole numbers in the place of a C library's cosine and arc cosine.
 // A caller binds the table once, `let t = quarter::entries();`, and lends it.
 ghost use mathlib.Core.Path.{_≡_};
-ghost use Prim.Native.Nat.{_≤_, _^_, _*_};
+ghost use Prim.Native.Nat.{_≤_, _^_, _+_};
+ghost use mathlib.Core.Bool.{true, false};
+ghost use lib.IntN.{pos};
+ghost use lib.Ieee.{fin, lt};
+ghost use Rattle.float.specs.Finite.{power, exceeds};
 ghost use Rattle.quarter.specs.Quarter.{quarter, quarterTable};
-ghost use Rattle.cosine.specs.Cosine.{folded, low, cosine};
-ghost use Rattle.cosine.specs.Step.{held, above, reached, step};
+ghost use Rattle.cosine.specs.Cosine.{folded, low, cosine, cosineSingle};
+ghost use Rattle.cosine.specs.Step.{held, above, step, wholePart, stepOfFrequency, frequency};
+ghost use Rattle.cosine.specs.Search.{entryWithin, LowStep, wholeBelow};
+ghost use Rattle.cosine.specs.Angle.{angle, stepOfAngle};
 
 // The step within half a circle that has the same cosine.
 fn fold(k: u32) -> u32
@@ -62,32 +68,117 @@ pub fn hold(c: f32) -> f32
     c
 }
 
-// The least step above 0 whose cosine is no greater than c, by halving.
-fn halve(t: &[u32; 2049], c: f64) -> u32
+// The last entry above q, where the first one is: by halving.
+fn place(t: &[u32; 2049], q: u64) -> usize
     requires { ⌜ now t ≡ quarterTable ⌝ }
-    ensures { λ r. ⌜ r ≡ above 24 (reached c) 0 ⌝ }
+    ensures { λ r. ⌜ r + 1 ≡ above 11 (entryWithin q) 0 ⌝ }
 {
-    let mut lo: u32 = 0;
-    let mut half: u32 = 8388608;
+    let mut lo: usize = 0;
+    let mut half: usize = 1024;
     while 0 < half {
         let mid = lo + half;
-        let found = cosine(t, mid) <= c;
+        let found = entry_at(t, mid) <= q;
         if !found {
             lo = mid;
         }
         half /= 2;
     }
-    lo + 1
+    lo
 }
 
-// The least step whose unnarrowed cosine is no greater than c, held to -1..1.
+// The least step up to the quarter circle whose blend is no greater than n: between two entries the blend falls by their difference a step.
+fn low_step(t: &[u32; 2049], n: u64) -> u32
+    requires { ⌜ now t ≡ quarterTable ⌝ }
+    ensures { λ r. ⌜ LowStep n r ⌝ }
+{
+    if 4398046511104 <= n {
+        return 0;
+    }
+    let i = place(t, n / 4096);
+    let a = entry_at(t, i);
+    let b = entry_at(t, i + 1);
+    let s = (a * 4096 - n - 1) / (a - b) + 1;
+    (i as u64 * 4096 + s) as u32
+}
+
+// |x| × 2^46, rounded down.
+fn whole_part(x: f32) -> u64
+    requires { ⌜ exceeds (power 16) x ≡ false ⌝ }
+    ensures { λ r. ⌜ r ≡ wholePart 46 x ⌝ }
+{
+    let y = std::num::f32_to_f64_with_nan(x) * 70368744177664.0;
+    if y < 0.0 {
+        return std::num::truncating_f64_to_u64(-y);
+    }
+    if 0.0 < y {
+        return std::num::truncating_f64_to_u64(y);
+    }
+    0
+}
+
+// The greatest whole number below |x| × 2^46, for an x in -1..0 that is not 0.
+fn whole_below(x: f32) -> u64
+    requires { ⌜ exceeds (power 0) x ≡ false ⌝ ∗ ⌜ lt x (fin false 0 (pos 0)) ≡ true ⌝ }
+    ensures { λ r. ⌜ r ≡ wholeBelow 46 x ⌝ }
+{
+    let n = whole_part(x);
+    if -(n as f64) <= std::num::f32_to_f64_with_nan(x) * 70368744177664.0 {
+        return n - 1;
+    }
+    n
+}
+
+// The least step whose unnarrowed cosine is no greater than c, held to -1..1. Above the quarter circle it mirrors the last step whose cosine reaches |c|.
 pub fn step(t: &[u32; 2049], c: f32) -> u32
     requires { ⌜ now t ≡ quarterTable ⌝ }
     ensures { λ r. ⌜ r ≡ step (held c) ⌝ }
 {
-    let x = std::num::f32_to_f64_with_nan(hold(c));
-    if cosine(t, 0) <= x {
-        return 0;
+    let x = hold(c);
+    if x != x {
+        return 16777216;
     }
-    halve(t, x)
+    if x < 0.0 {
+        return 16777217 - low_step(t, whole_below(x) / 16);
+    }
+    low_step(t, whole_part(x) / 16)
+}
+
+// The greatest whole number of steps no greater than a frequency of up to 65,536 in magnitude.
+pub fn step_of_frequency(f: f32) -> u32
+    requires { ⌜ exceeds (power 16) f ≡ false ⌝ }
+    ensures { λ r. ⌜ (r ≡ stepOfFrequency f) × (r ≤ 2 ^ 25) ⌝ }
+{
+    (whole_part(f) / 137438953472) as u32
+}
+
+// The greatest whole number of steps no greater than an angle of up to 16 in magnitude.
+pub fn step_of_angle(a: f32) -> u32
+    requires { ⌜ exceeds (power 4) a ≡ false ⌝ }
+    ensures { λ r. ⌜ r ≡ stepOfAngle a ⌝ }
+{
+    (whole_part(a) / 13176795) as u32
+}
+
+// The angle of a step, rounded once to single.
+pub fn angle(k: u32) -> f32
+    requires { ⌜ k ≤ 2 ^ 24 ⌝ }
+    ensures { λ r. ⌜ r ≡ angle k ⌝ }
+{
+    float::narrow((k as f64) * 3.1415927410125732421875 / 16777216.0)
+}
+
+// A step as a frequency.
+pub fn frequency(k: u32) -> f32
+    requires { ⌜ k ≤ 2 ^ 24 ⌝ }
+    ensures { λ r. ⌜ r ≡ frequency k ⌝ }
+{
+    k as f32 / 512.0
+}
+
+// The cosine of a step, for single answers.
+pub fn cosine_single(t: &[u32; 2049], k: u32) -> f32
+    requires { ⌜ now t ≡ quarterTable ⌝ }
+    ensures { λ r. ⌜ r ≡ cosineSingle k ⌝ }
+{
+    float::narrow(cosine(t, k))
 }

@@ -3,7 +3,7 @@
 use mathlib.Core.Path.{_≡_, refl, sym, ap, _∙_, subst}
 use Prim.Native.Nat.{ℕ, suc, _+_, _-_, _*_, _/_, _%_, _^_, _≤_, _<_, compare, Ordering, Ordering·lt, Ordering·eq, Ordering·gt}
 use mathlib.Core.Logic.{inl, inr}
-use native.Mathlib.Nat.{le-trans, le-of-lt, not-le-of-lt, div-eq-of-lt, mod-eq-of-lt, le-div-iff-mul-le, div-lt-iff-lt-mul, add-comm, add-suc, add-mul-div-right, mul-add-mod-self-right, one-mul, eq-zero-or-pos, mod-lt, div-add-mod', suc-mul, two-pow-succ}
+use native.Mathlib.Nat.{le-trans, le-of-lt, not-le-of-lt, div-eq-of-lt, mod-eq-of-lt, le-div-iff-mul-le, div-lt-iff-lt-mul, add-comm, add-suc, add-mul-div-right, mul-add-mod-self-right, one-mul, eq-zero-or-pos, mod-lt, div-add-mod', suc-mul, pow-succ'}
 use native.Mathlib.Omega.{arith}
 use mathlib.Core.Bool.{not}
 use lib.Arith.{digits-div, lt-of-le-ne}
@@ -35,7 +35,7 @@ quotient n q u a e h = ap (λ (x : ℕ). x / u) e ∙ digits-div q h
 next : (n q u a : ℕ) → n ≡ q * u + u + a → a < u → n / u ≡ suc q
 next n q u a e h = quotient n (suc q) u a (e ∙ ap (λ (x : ℕ). x + a) (sym (suc-mul q u))) h
 
-module _ (q r h u : ℕ) (twice : u ≡ h + h) (H : 0 < h) (R : r < u) where
+module _ (q r h u : ℕ) (twice : u ≡ 2 * h) (H : 0 < h) (R : r < u) where
   abbrev up-to : ℕ
   up-to = q * u + r + (h - 1) + q % 2
 
@@ -57,8 +57,8 @@ module _ (q r h u : ℕ) (twice : u ≡ h + h) (H : 0 < h) (R : r < u) where
   rounds Ordering·gt c = over c
 
 -- ---- at a power of two
-half : (k : ℕ) → 1 ≤ k → 2 ^ k ≡ 2 ^ (k - 1) + 2 ^ (k - 1)
-half k h = ap (λ (x : ℕ). 2 ^ x) (sym (suc-pred k h)) ∙ two-pow-succ (k - 1)
+pub half : (k : ℕ) → 1 ≤ k → 2 ^ k ≡ 2 * 2 ^ (k - 1)
+half k h = ap (λ (x : ℕ). 2 ^ x) (sym (suc-pred k h)) ∙ pow-succ' 2 (k - 1)
   where
     suc-pred : (k : ℕ) → 1 ≤ k → suc (k - 1) ≡ k
     suc-pred k h = omega arith

@@ -1,14 +1,30 @@
 -- Laws that other crates cite.
 pub mod Table
+pub mod Mapped
 pub mod Loop
+pub mod Change
+pub mod Turns
 pub mod All
+pub mod Any
 pub mod Order
+pub mod Strict
 pub mod Value
 pub mod Product
 pub mod Rounded
-mod HalfEven
-mod Units
+pub mod Error
+pub mod Near
+pub mod Dyadic
+pub mod Truncate
+pub mod Bound
+pub mod Range
+pub mod HalfEven
+pub mod Units
+pub mod Whole
 pub mod Patterns
 mod Narrowing
 mod Signs
+pub mod Blocks
+pub mod Pattern
 pub mod Anywhere
+pub mod Parts
+pub mod Refusal

@@ -2,8 +2,8 @@
 -- digits are D = 2 ^ 52 + m % 2 ^ 52; in units of the smallest double it is D * 2 ^ (field - 1), and 2 ^ 925 of those are one of the smallest single. Assumes nothing.
 use mathlib.Core.Path.{_≡_, refl, sym, ap, _∙_}
 use mathlib.Core.Logic.{_⊎_, inl, inr}
-use Prim.Native.Nat.{ℕ, suc, _+_, _-_, _*_, _/_, _%_, _^_, _≤_, _<_}
-use native.Mathlib.Nat.{eq-zero-or-pos, le-trans, le-of-eq, eq-or-lt-of-le, lt-of-lt-of-le, lt-of-le-of-lt, mul-assoc, zero-add, mul-le-mul, mul-le-mul-left, pow-suc}
+use Prim.Native.Nat.{ℕ, _+_, _-_, _*_, _/_, _%_, _^_, _≤_, _<_}
+use native.Mathlib.Nat.{eq-zero-or-pos, le-trans, le-of-eq, eq-or-lt-of-le, lt-of-lt-of-le, lt-of-le-of-lt, mul-assoc, mul-comm, zero-add, mul-le-mul, mul-le-mul-left}
 use native.Mathlib.Omega.{arith}
 use mathlib.Core.Bool.{false}
 use lib.Dec.{lit<, lit≤}
@@ -12,7 +12,7 @@ use lib.Ieee.{Float, binary32, binary64, units, ofBits, toBits}
 use lib.Ieee.Exact.{HasValue}
 use Rattle.float.specs.HalfEven.{halfEven}
 use Rattle.float.specs.Narrow.{rounded, narrow}
-use Rattle.float.proofs.HalfEven.{half-even-le, half-even-ge, half-even-zero, half-even-add}
+use Rattle.float.proofs.HalfEven.{half, half-even-le, half-even-ge, half-even-zero, half-even-add}
 use Rattle.float.proofs.Patterns.{units-low, units-high}
 use Rattle.float.proofs.Rounded.{rounded-value}
 use Rattle.float.proofs.Units.{round-units, toBits-units, toBits-inf, units-over}
@@ -126,15 +126,11 @@ tiny v a h l =
     balance-one : (a : ℕ) → a * 2 ^ 149 * 2 ^ 925 ≡ a * (2 ^ 1074 * 2 ^ 0)
     balance-one a = mul-assoc a (2 ^ 149) (2 ^ 925)
 
--- D * 2 ^ (x - 1), doubled, is D * 2 ^ x
-double : (D x : ℕ) → 0 < x → D * 2 ^ (x - 1) * 2 ≡ D * 2 ^ x
-double D x h = mul-assoc D (2 ^ (x - 1)) 2 ∙ ap (λ (z : ℕ). D * z) (sym (pow-suc 2 (x - 1)) ∙ ap (λ (z : ℕ). 2 ^ z) (suc-pred x h))
-  where
-    suc-pred : (x : ℕ) → 0 < x → suc (x - 1) ≡ x
-    suc-pred x h = omega arith
+doubled : (D x : ℕ) → 0 < x → D * 2 ^ (x - 1) * 2 ≡ D * 2 ^ x
+doubled D x h = mul-assoc D (2 ^ (x - 1)) 2 ∙ ap (λ (z : ℕ). D * z) (mul-comm (2 ^ (x - 1)) 2 ∙ sym (half x h))
 
-zero : (m : ℕ) → m < 0x3690_0000_0000_0000 → toBits binary32 (narrow (ofBits binary64 m)) ≡ 0
-zero m l = elim (eq-zero-or-pos (m / 2 ^ 52)) [
+lost : (m : ℕ) → m < 0x3690_0000_0000_0000 → toBits binary32 (narrow (ofBits binary64 m)) ≡ 0
+lost m l = elim (eq-zero-or-pos (m / 2 ^ 52)) [
   | inl z ↦
       let small : m < 2 ^ 52 = omega arith in
       let twice : m * 2 < 2 ^ 53 = omega arith in
@@ -145,8 +141,8 @@ zero m l = elim (eq-zero-or-pos (m / 2 ^ 52)) [
       let D = digits m lead under in
       let e = field m lead under in
       tiny (ofBits binary64 m) (D * 2 ^ (e - 1)) (units-high binary64 m lead under)
-      (lt-of-le-of-lt (le-of-eq (double D e x)) (lt-of-lt-of-le (shl-lt 53 e (digits-lt m lead under)) (pow-mono {i = 53 + e} {j = 925} (omega arith))))
+      (lt-of-le-of-lt (le-of-eq (doubled D e x)) (lt-of-lt-of-le (shl-lt 53 e (digits-lt m lead under)) (pow-mono {i = 53 + e} {j = 925} (omega arith))))
 ]
 
 pub zero-range : (m : ℕ) → m < 0x3690_0000_0000_0000 → Narrowed m 0
-zero-range m l = (sym (zero m l), lit≤ tt)
+zero-range m l = (sym (lost m l), lit≤ tt)

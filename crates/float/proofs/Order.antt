@@ -11,6 +11,8 @@ use lib.IntN.{ℤ}
 use lib.Ieee.{Float, nan, inf, fin, up, down, below, level, lt, eq, le}
 use lib.Ieee.Fits.{down-pos, and-i, and-l, and-r, eq→eqb}
 use lib.Ieee.Exact.{HasValue}
+use lib.Ieee.Scale.{finite}
+use borrow.Author.Tests.{ltb-false}
 
 abbrev pub Under : Bool → ℕ → Bool → ℕ → Type 0
 Under false a false b = a ≤ b
@@ -167,3 +169,20 @@ le-trans-any (fin s m e) (fin t n g) (fin u o i) h k =
     (subst (λ (v : ℕ). Under t v u (o * up i * down e * down g)) (mul-right-comm (n * up g) (down i) (down e))
     (subst (λ (v : ℕ). Under t (n * up g * down i * down e) u v) (mul-right-comm (o * up i) (down g) (down e))
     (under-scale t (n * up g * down i) u (o * up i * down g) (down e) (test-under t (n * up g * down i) u (o * up i * down g) k))))))
+
+-- ---- what is not below is no less
+pub under-of-not : (s : Bool) (a : ℕ) (t : Bool) (b : ℕ) → below s a t b ≡ false → Under t b s a
+under-of-not false a false b h = ltb-false a b h
+under-of-not false a true b h = tt
+under-of-not true a false b h =
+    let z : a + b ≤ 0 = ltb-false 0 (a + b) h in
+    omega arith
+under-of-not true a true b h = ltb-false b a h
+
+pub le-of-not-lt : (x y : Float) → T (finite x) → T (finite y) → lt x y ≡ false → T (le y x)
+unfolding le lt eq
+le-of-not-lt nan y p q h = absurd p
+le-of-not-lt (inf s) y p q h = absurd p
+le-of-not-lt (fin s m e) nan p q h = absurd q
+le-of-not-lt (fin s m e) (inf t) p q h = absurd q
+le-of-not-lt (fin s m e) (fin t n d) p q h = under-test t (n * up d * down e) s (m * up e * down d) (under-of-not s (m * up e * down d) t (n * up d * down e) h)

@@ -6,7 +6,7 @@ use native.Mathlib.Nat.{eq-zero-or-pos, mod-lt, zero-add}
 use native.Mathlib.Omega.{arith}
 use mathlib.Core.Bool.{Bool, false, not}
 use lib.Arith.{le→nltb}
-use lib.Dec.{T, ltb, nltb→le}
+use lib.Dec.{T, nltb→le}
 use lib.Pow.{pow-pos}
 use lib.Ieee.{Float, nan, inf, fin, Format, binary32, binary64, fits, isNan, nanBits, hid, ones, top, neg, ne, ofBits, toBits}
 use lib.Ieee.Bits.{ofBits-toBits, toBits-lt, nanBits-is, nanBits-above}
@@ -29,14 +29,11 @@ magnitude-le f x h n =
     nltb→le (ones f * hid f) (toBits f x % top f)
     (subst (λ (b : Bool). T (not b)) (sym (ap isNan (ofBits-toBits f x h)) ∙ sym (nanBits-is f (toBits f x)) ∙ nanBits-above f (toBits f x)) n)
 
+-- and the other way round
+pub no-nan : (f : Format) (b : ℕ) → b % top f ≤ ones f * hid f → T (not (nanBits f b))
+no-nan f b h = subst (λ (t : Bool). T (not t)) (sym (nanBits-above f b)) (le→nltb (ones f * hid f) (b % top f) h)
+
 -- ---- the narrowed magnitude with the sign put on
-rest : (s r : ℕ) → r ≤ 0x7f80_0000 → (s * 0x8000_0000 + r) % 0x8000_0000 ≡ r
-rest s r h = omega arith
-
-pub joined-no-nan : (s r : ℕ) → r ≤ 0x7f80_0000 → T (not (nanBits binary32 (s * 0x8000_0000 + r)))
-joined-no-nan s r h =
-    subst (λ (b : Bool). T (not b)) (sym (nanBits-above binary32 (s * 0x8000_0000 + r) ∙ ap (λ (z : ℕ). ltb 0x7f80_0000 z) (rest s r h))) (le→nltb 0x7f80_0000 r h)
-
 module _ (x : Float) (h : T (fits binary64 x)) where
   abbrev bits : ℕ
   bits = toBits binary64 x

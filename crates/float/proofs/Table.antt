@@ -2,19 +2,19 @@
 -- Assumes nothing.
 use mathlib.Core.Path.{_≡_, refl, sym, ap, _∙_}
 use mathlib.Core.Logic.{inl, inr}
-use mathlib.Core.List.{List, [], _∷_, _++_}
+use mathlib.Core.List.{List, [], _∷_, _++_, map}
 use Prim.Native.Nat.{ℕ, zero, suc, _+_, _≤_, _<_, zero-le}
 use native.Mathlib.Nat.{add-comm, eq-or-lt-of-le, le-of-suc-le-suc, not-suc-le-zero}
 use native.Mathlib.Numerals.{add-one}
 use native.Mathlib.Omega.{arith}
-use lib.ListN.{length, getD, take, set, length-append, length-set, List·getD-append}
-use lib.Seq.{take-suc-set, take-all, getD-at}
+use lib.ListN.{length, getD, take, set, length-append, length-set, length-map, List·getD-append, List·getD-map}
+use lib.Seq.{take-suc-set, take-all, getD-at, ext-getD}
 use Rattle.float.specs.Table.{table}
 
 pub length-table : {A : Type 0} (n : ℕ) (f : ℕ → A) → length (table n f) ≡ n
 unfolding table
 length-table zero f = refl
-length-table (suc n) f = length-append (table n f) (f n ∷ []) ∙ ap (λ (k : ℕ). k + 1) (length-table n f) ∙ add-one n
+length-table (suc n) f = rw (length-append, length-table n f) (add-one n)
 
 -- what stands at a place
 pub at-table : {A : Type 0} (n : ℕ) (f : ℕ → A) (i : ℕ) (d : A) → i < n → getD (table n f) i d ≡ f i
@@ -54,3 +54,11 @@ pub filled-all : {A : Type 0} (n : ℕ) (f : ℕ → A) (i : ℕ) (out : List A)
 filled-all n f i out h r =
     let e : i ≡ n = omega (arith, r .bound) in
     sym (take-all n out (omega (arith, r .long))) ∙ ap (λ (k : ℕ). take k out) (sym e) ∙ r .done ∙ ap (λ (k : ℕ). table k f) e
+
+-- a list mapped is the table of its mapped places
+pub map-table : {A B : Type 0} (f : A → B) (l : List A) (n : ℕ) (d : A) → length l ≡ n → map f l ≡ table n (λ i. f (getD l i d))
+map-table f l n d h =
+    ext-getD (f d) (map f l) (table n (λ i. f (getD l i d))) (length-map l f ∙ h ∙ sym (length-table n (λ i. f (getD l i d))))
+    (λ i k.
+    let q : i < n = rw (length-map l f ∙ h) at k in
+    List·getD-map f l i d ∙ sym (at-table n (λ j. f (getD l j d)) i (f d) q))

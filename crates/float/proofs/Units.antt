@@ -16,6 +16,7 @@ use lib.Ieee.Fits.{round-is, two, reach, two-le-pos}
 use lib.Ieee.Nearest.{closest, closest-same}
 use lib.Ieee.Scale.{overflow}
 use Rattle.float.specs.HalfEven.{halfEven}
+use Rattle.float.proofs.HalfEven.{half}
 use Rattle.float.proofs.Value.{pattern, toBits-value}
 
 -- ---- how many digits are dropped
@@ -60,12 +61,9 @@ module _ (f : Format) (s : Bool) (a c D r k : ℕ) (C : 0 < c) (same : a * 2 ^ l
       ∙ ap (λ (q : ℕ). units f s q k) (closest-same n (c * 2 ^ k) D (2 ^ r) (mul-pos C (pow-pos k)) (pow-pos r) same)
 
 -- ---- its pattern
-suc-pred : (p : ℕ) → 0 < p → suc (p - 1) ≡ p
-suc-pred p h = omega arith
-
 -- 2 ^ prec is twice the weight of the exponent's field
 twice-hid : (f : Format) → 2 ^ prec f ≡ 2 * hid f
-twice-hid f = ap (λ (x : ℕ). 2 ^ x) (sym (suc-pred (prec f) (two-le-pos (prec f) (two f)))) ∙ pow-succ' 2 (prec f - 1)
+twice-hid f = half (prec f) (two-le-pos (prec f) (two f))
 
 written : (f : Format) (s : Bool) (q k : ℕ) → q < 2 ^ prec f → (k ≡ 0) ⊎ (hid f ≤ q) → pattern f s (q * 2 ^ k) ≡ cond s (top f) 0 + k * hid f + q
 unfolding pattern

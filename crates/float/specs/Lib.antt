@@ -8,3 +8,5 @@ pub mod Double
 pub mod HalfEven
 pub mod Narrow
 pub mod Vector
+pub mod Pattern
+pub mod Difference

@@ -1,4 +1,8 @@
 // Tests of singles that the refusals stand on, and the one rounding that Rattle's casts leave out.
+mod bits;
+
+pub use bits::of_bits;
+pub use bits::same_bits;
 ghost use mathlib.Core.Path.{_≡_};
 ghost use Prim.Native.Nat.{_^_, _≤_, _<_};
 ghost use lib.Ieee.{binary32, binary64, ofBits, toBits};

@@ -1,11 +1,11 @@
 // The Recommendation's tables that the analysis reads, and the three bands of its line quantiser. Consts have the Rust's names.
 // A table is read by binding it once, as `let t = lsp_rows();`, and lending `&t`: a const that is named in a loop is copied at each use.
 ghost use mathlib.Core.Path.{_≡_};
-ghost use Prim.Native.Nat.{_+_, _≤_};
+ghost use Prim.Native.Nat.{_+_, _*_, _≤_};
 ghost use lib.ListN.{length, take, drop};
-ghost use Rattle.spec_tables.specs.Band.{placeOf};
+ghost use Rattle.spec_tables.specs.Band.{placeOf, firstRow, allBands};
 ghost use Rattle.spec_tables.specs.Codebook.{lspRows};
-ghost use Rattle.spec_tables.specs.Rows.{rowPlace, row, padded};
+ghost use Rattle.spec_tables.specs.Rows.{row, padded};
 ghost use Rattle.spec_tables.specs.Tables.{bandInfo, dcFreq, lagWindow, perceptualZero, perceptualPole};
 ghost use Rattle.spec_tables.specs.Window.{hammingWindow};
 
@@ -117,6 +117,13 @@ pub struct BandPlace {
 impl LspBand {
     pub const ALL: [LspBand; 3] = [LspBand::Band0, LspBand::Band1, LspBand::Band2];
 
+    // The same as a value, with what it holds as its contract.
+    pub fn in_order() -> [LspBand; 3]
+        ensures { λ r. ⌜ r ≡ allBands ⌝ }
+    {
+        LspBand::ALL
+    }
+
     pub fn start_and_length(self) -> BandPlace
         ensures { λ r. ⌜ r ≡ placeOf self ⌝ }
     {
@@ -136,9 +143,20 @@ impl LspBand {
         }
     }
 
+    // Where the band's rows begin among the 2,560 numbers.
+    pub fn first_row(self) -> usize
+        ensures { λ r. ⌜ r ≡ firstRow self ⌝ }
+    {
+        match self {
+            LspBand::Band0 => 0,
+            LspBand::Band1 => 768,
+            LspBand::Band2 => 1536,
+        }
+    }
+
     // The place of row `index` among the 2,560 numbers.
     pub fn row_place(self, index: u8) -> usize
-        ensures { λ r. ⌜ r ≡ rowPlace (placeOf self .start) (placeOf self .length) index ⌝ }
+        ensures { λ r. ⌜ r ≡ firstRow self + index * placeOf self .length ⌝ }
     {
         match self {
             LspBand::Band0 => (index as usize) * 3,
@@ -149,7 +167,7 @@ impl LspBand {
 }
 
 // The `width` numbers from place `at` on, zeros after them.
-pub fn row_at(rows: &[i16], at: usize, width: usize) -> [i16; 4]
+fn row_at(rows: &[i16], at: usize, width: usize) -> [i16; 4]
     requires { ⌜ (at + width ≤ length (now rows)) × (width ≤ 4) ⌝ }
     ensures { λ r. ⌜ r ≡ padded (take width (drop at (now (rows .entry)))) ⌝ }
 {

@@ -1,25 +1,24 @@
--- `cosine::step` meets its contract. Assumes nothing.
+-- `cosine::step` meets its contract: on either side of the quarter circle the step found among the blends is the least that reaches what is held. Assumes nothing.
 use borrow.Author.Needs.{needs}
-use mathlib.Core.Path.{_≡_, refl, sym, ap, _∙_}
-use mathlib.Core.Bool.{Bool, true, false, cond}
-use Prim.Native.Nat.{ℕ}
-use lib.Ieee.{Float, le}
-use Rattle.cosine.specs.Cosine.{cosine}
-use Rattle.cosine.specs.Step.{held, above, reached, step}
+use mathlib.Core.Path.{_≡_, ap, _∙_}
+use mathlib.Core.Bool.{Bool, false}
+use lib.Dec.{lit≤}
+use lib.Ieee.{Float, binary32, lt, ofBits}
+use Rattle.float.specs.Finite.{power, exceeds}
+use Rattle.float.proofs.Bound.{wider}
+use Rattle.cosine.specs.Step.{held, step}
+use Rattle.cosine.proofs.Whole.{zero-double}
+use Rattle.cosine.proofs.Reach.{step-low, step-high, step-nan, held-within}
 use Rattle.cosine.proofs.step.Statement.{statement}
 use Rattle.cosine.proofs.step.Tie as tie
 
--- the first step's cosine is no greater, or it is and the rest is searched
-at-once : (c x z : Float) → x ≡ c → z ≡ cosine 0 → le z x ≡ true → 0 ≡ step c
-unfolding step
-at-once c x z e f h = ap (λ (b : Bool). cond b 0 (above 24 (reached c) 0)) (sym h ∙ ap (λ (y : Float). le y x) f ∙ ap (le (cosine 0)) e)
+within : (c x : Float) → x ≡ held c → exceeds (power 0) x ≡ false
+within c x e = ap (exceeds (power 0)) e ∙ held-within c
 
-later : (c x z : Float) (r : ℕ) → x ≡ c → z ≡ cosine 0 → le z x ≡ false → r ≡ above 24 (reached x) 0 → r ≡ step c
-unfolding step
-later c x z r e f h k =
-    k
-    ∙ ap (λ (y : Float). above 24 (reached y) 0) e
-    ∙ ap (λ (b : Bool). cond b 0 (above 24 (reached c) 0)) (sym h ∙ ap (λ (y : Float). le y x) f ∙ ap (le (cosine 0)) e)
+-- the code's zero, as the laws write it
+sign : (x : Float) (b : Bool) → lt x (ofBits binary32 0) ≡ b → lt x zero-double ≡ b
+unfolding ofBits
+sign x b h = h
 
 pub step-spec : {M : Type 1} → statement M
 step-spec =
@@ -27,13 +26,19 @@ step-spec =
     (tie.spec
     -- hold-requires
     (λ c κs. search needs)
-    -- f32-to-f64-with-nan-requires
-    (λ c κs. search needs)
-    -- cosine-requires
-    (λ c κs. search needs)
     -- returns
-    (λ c. at-once _ _ _ (c .before .before .f32-to-f64-with-nan .ensures ∙ c .before .before .before .hold .ensures) (c .before .cosine .ensures) (c .if1 .taken))
-    -- halve-requires
+    (λ c. step-nan _ (c .if1 .taken) ∙ ap step (c .before .hold .ensures))
+    -- whole-below-requires
+    (λ c κs. (within _ _ (c .before .before .hold .ensures), sign _ _ (c .if2 .taken)))
+    -- low-step-requires
     (λ c κs. search needs)
+    -- sub-result
+    (λ c. search needs)
     -- returns-2
-    (λ c. later _ _ _ _ (c .before .before .before .f32-to-f64-with-nan .ensures ∙ c .before .before .before .before .hold .ensures) (c .before .before .cosine .ensures) (c .before .if1 .left) (c .halve .ensures)))
+    (λ c. step-high _ _ _ (within _ _ (c .before .before .before .before .hold .ensures)) (sign _ _ (c .before .before .if2 .taken)) (c .before .whole-below .ensures) (c .low-step .ensures) ∙ ap step (c .before .before .before .before .hold .ensures))
+    -- whole-part-requires
+    (λ c κs. wider 0 16 _ (lit≤ tt) (within _ _ (c .before .before .hold .ensures)))
+    -- low-step-requires-2
+    (λ c κs. search needs)
+    -- returns-3
+    (λ c. step-low _ _ _ (within _ _ (c .before .before .before .before .hold .ensures)) (c .before .before .before .if1 .left) (sign _ _ (c .before .before .if2 .left)) (c .before .whole-part .ensures) (c .low-step2 .ensures) ∙ ap step (c .before .before .before .before .hold .ensures)))

@@ -1,6 +1,6 @@
 -- `float::half_even` meets its contract: nothing wraps, and the quotient is `proofs/HalfEven.antt`'s. Assumes nothing.
-use Prim.Native.Nat.{_-_, _*_, _%_, _^_, _≤_}
-use mathlib.Core.Path.{_≡_}
+use Prim.Native.Nat.{ℕ, _+_, _/_, _-_, _*_, _%_, _^_, _≤_}
+use mathlib.Core.Path.{_≡_, ap, _∙_}
 use native.Mathlib.Omega.{arith}
 use borrow.Author.Needs.{needs}
 use lib.Pow.{pow-pos}
@@ -22,7 +22,7 @@ shl-result : tie.Need-shl-result
 shl-result c = search needs
 
 sub-result-2 : tie.Need-sub-result-2
-sub-result-2 c = rw (shifted c) (pow-pos (c .args .k - 1))
+sub-result-2 c = omega (arith, shifted c, pow-pos (c .args .k - 1))
 
 add-result : tie.Need-add-result
 add-result c = omega (arith, shifted c, bound c)
@@ -37,7 +37,10 @@ shr-result-2 : tie.Need-shr-result-2
 shr-result-2 c = search needs
 
 returns : tie.Need-returns
-returns c = rw (shifted c) (half-even-is (c .args .d) (c .args .k) (c .pre .0))
+returns c =
+    let d = c .args .d in
+    let u = 2 ^ c .args .k in
+    ap (λ (z : ℕ). (d + (z - 1) + d / u % 2) / u) (shifted c) ∙ half-even-is d (c .args .k) (c .pre .0)
 
 pub half-even-spec : {M : Type 1} → statement M
 half-even-spec =

@@ -6,7 +6,7 @@ use lib.Dec.{T}
 use lib.Ieee.{nan, binary32, binary64, fits, ofBits, div}
 use lib.Ieee.Compare.{differs-from-itself}
 use Rattle.float.specs.Narrow.{rounded, narrow}
-use Rattle.float.proofs.Signs.{not-nan, magnitude-le, sign-le, joined, joined-no-nan}
+use Rattle.float.proofs.Signs.{not-nan, magnitude-le, sign-le, no-nan, joined}
 use Rattle.float.proofs.narrow.Statement.{statement}
 use Rattle.float.proofs.narrow.Tie as tie
 
@@ -40,7 +40,7 @@ cast-result : tie.Need-cast-result
 cast-result c = omega (arith, sign-le (c .before .before .args .x) (held (c .before .before)), c .narrow-magnitude .ensures .1)
 
 float-from-bits-result : tie.Need-float-from-bits-result
-float-from-bits-result c = joined-no-nan _ (c .narrow-magnitude .result) (c .narrow-magnitude .ensures .1)
+float-from-bits-result c = no-nan binary32 _ (omega (arith, c .narrow-magnitude .ensures .1))
 
 returns-2 : tie.Need-returns-2
 returns-2 c = joined (c .before .before .args .x) (held (c .before .before)) (c .narrow-magnitude .result) (c .narrow-magnitude .ensures)

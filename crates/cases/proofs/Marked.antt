@@ -1,0 +1,30 @@
+-- Every marked case holds: antt computes each definition. Assumes nothing.
+use mathlib.Core.Path.{refl}
+use mathlib.Core.List.{flatten}
+use lib.Ieee.{neg, round, add, sub, mul, div, ofInt, lt, eq, le}
+use Rattle.float.specs.Single.{single}
+use Rattle.float.specs.Double.{double}
+use Rattle.float.specs.Table.{table}
+use Rattle.float.specs.Loop.{times}
+use Rattle.float.specs.Refusal.{all}
+use Rattle.float.specs.Narrow.{rounded}
+use Rattle.quarter.specs.Quarter.{quarterRows, quarter, entry}
+use Rattle.cosine.specs.Cosine.{folded, blend, scaled, cosine}
+use Rattle.cosine.specs.Step.{held, above, step}
+use Rattle.spec_tables.specs.Codebook.{lspBand0, lspBand1, lspBand2, lspRows}
+use Rattle.spec_tables.specs.Window.{windowRows, hammingWindow}
+use Rattle.row_search.specs.Error.{squared, term, rowError}
+use Rattle.row_search.specs.Search.{better, among}
+use Rattle.spec_lsp.specs.Decode.{predicted, rebuilt, bandRow, rowNumbers, decoded, decodeLspFreq}
+use Rattle.spec_lsp.specs.Quantise.{smaller, larger, nearest, weightOf, weights, target, chosen, indexOf, quantiseBy, quantiseLspFreq}
+use Rattle.lsp.specs.Interpolate.{previousWeight, currentWeight, weighed, interpolateLsp}
+use Rattle.lsp.specs.Polynomial.{coefficient, quadratic, side, plusFactor, minusFactor, halfSum, lspToLpc}
+use Rattle.pitch.specs.Gate.{gate, atMostOne, passes}
+use Rattle.lpc.specs.Correlation.{windowed, lagged, correlation, lagWeight, corrected, sums}
+use Rattle.lpc.specs.Analysis.{trivial, setOf, lpcAnalysis}
+use Rattle.cases.specs.Marked.{marked, All}
+
+pub marked-hold : All marked
+unfolding flatten neg round add sub mul div ofInt lt eq le single double table times all rounded quarterRows quarter entry folded blend scaled cosine held above step lspBand0 lspBand1 lspBand2 lspRows windowRows hammingWindow squared term rowError better among predicted rebuilt bandRow rowNumbers decoded decodeLspFreq smaller larger nearest weightOf weights target chosen indexOf quantiseBy quantiseLspFreq previousWeight currentWeight weighed interpolateLsp coefficient quadratic side plusFactor minusFactor halfSum lspToLpc gate atMostOne passes windowed lagged correlation lagWeight corrected sums trivial setOf lpcAnalysis
+marked-hold =
+    (refl, (refl, (refl, (refl, (refl, (refl, (refl, (refl, (refl, (refl, (refl, (refl, (refl, (refl, (refl, (refl, (refl, (refl, (refl, ((refl, refl), tt))))))))))))))))))))

@@ -1,0 +1,6 @@
+-- Laws that other crates cite.
+mod Sums
+mod Lanes
+pub mod Turns
+pub mod Window
+pub mod Winner

@@ -1,0 +1,3 @@
+-- Laws behind the functions' proofs, and those that callers cite.
+mod Sums
+pub mod Leading

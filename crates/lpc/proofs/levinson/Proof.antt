@@ -1,0 +1,54 @@
+-- `lpc::levinson` meets its contract: up to i the state is the recursion's. Assumes nothing.
+use mathlib.Core.Path.{_≡_, refl, _∙_}
+use mathlib.Core.Bool.{false}
+use mathlib.Core.List.{List, [], _∷_}
+use native.Mathlib.Omega.{arith}
+use Prim.Native.Nat.{ℕ, _-_, _≤_}
+use lib.Dec.{lit≤}
+use lib.Ieee.{Float, nan, binary32, binary64, ofBits, round}
+use lib.ListN.{getD, set, replicate}
+use Rattle.float.specs.Single.{single}
+use Rattle.float.specs.Double.{double}
+use Rattle.float.proofs.Loop.{Went, went-none, went-more, went-all}
+use Rattle.lpc.specs.declared.Recursion.{Recursion}
+use Rattle.lpc.specs.Levinson.{start, order, levinson}
+use borrow.Author.Needs.{needs}
+use Rattle.lpc.proofs.levinson.Statement.{statement}
+use Rattle.lpc.proofs.levinson.Tie as tie
+
+abbrev Inv-loop : tie.InvT-loop
+Inv-loop r s₀ i₀ s i = Went 1 11 (order r) (start r) i s
+
+abbrev μ-loop : tie.MeasureT-loop
+μ-loop r s₀ i₀ s i = 11 - i
+
+begin : (r : List Float) → Went 1 11 (order r) (start r) 1 (record { a = set (replicate 11 (ofBits binary64 0)) 0 (ofBits binary64 4607182418800017408); error = getD r 0 nan; k2 = ofBits binary32 0; stopped = false })
+unfolding start single double round ofBits
+begin r = went-none 1 11 (order r) (start r) (lit≤ tt)
+
+all : (r : List Float) (i : ℕ) (s : Recursion) → 11 ≤ i → Went 1 11 (order r) (start r) i s → s ≡ levinson r
+unfolding levinson
+all r i s h w = went-all 1 11 (order r) (start r) i s h w
+
+pub levinson-spec : {M : Type 1} → statement M
+levinson-spec =
+    tie.close
+    (tie.spec
+    Inv-loop
+    μ-loop
+    -- array-write-a
+    (λ c. search needs)
+    -- element-copy-out-t11
+    (λ c. search needs)
+    -- loop-holds
+    (λ c. begin _)
+    -- try-order-requires
+    (λ c κs. (c .before .loop .inv .from, omega arith))
+    -- add-i
+    (λ c. search needs)
+    -- loop-less
+    (λ c. search needs)
+    -- loop-again
+    (λ c. went-more 1 11 _ _ _ _ _ (c .before .loop-test .taken) (c .try-order .ensures) (c .before .before .loop .inv))
+    -- returns
+    (λ c. all _ _ _ (c .loop-test .left) (c .before .loop .inv)))

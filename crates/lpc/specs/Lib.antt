@@ -1,0 +1,4 @@
+-- Linear prediction of one window (§2.4). One notion a file.
+pub mod Correlation
+pub mod Levinson
+pub mod Analysis

@@ -1,0 +1,7 @@
+-- Laws behind the functions' proofs, and those that callers cite.
+mod InPlace
+mod Series
+mod Turns
+mod Halvings
+pub mod Inside
+pub mod Strict

@@ -1,0 +1,418 @@
+// Line spectral pairs: from the prediction filter to their cosines, between two sets of them, and back to the filter.
+ghost use mathlib.Core.Path.{_≡_};
+ghost use mathlib.Core.Bool.{cond};
+ghost use Prim.Native.Nat.{_+_, _≤_, _<_};
+ghost use lib.Ieee.{eq};
+ghost use lib.ListN.{set};
+ghost use Rattle.float.specs.Table.{table};
+ghost use Rattle.float.specs.Double.{double};
+ghost use Rattle.float.specs.Narrow.{narrow};
+ghost use Rattle.quarter.specs.Quarter.{quarterTable};
+ghost use Rattle.lsp.specs.Answer.{refusedLsp, refusedLpc};
+ghost use Rattle.lsp.specs.Interpolate.{previousWeight, currentWeight, weighed, interpolateLsp};
+ghost use Rattle.lsp.specs.Polynomial.{quadratic, side, halfSum, lspToLpc};
+ghost use Rattle.lsp.specs.Chebyshev.{seeded, plusNext, minusNext, factor, clenshawStep, valueAt};
+ghost use Rattle.lsp.specs.Root.{point, met, crossings, middle, halved, bracket, rootsIn};
+ghost use Rattle.lsp.specs.Pairs.{inTurn, falling, paired, lpcToLsp};
+
+// Ten cosines of line spectral pairs.
+pub struct LspSet {
+    pub status: u32,
+    pub lsp: [f32; 10],
+}
+
+// Eleven coefficients of a prediction filter.
+pub struct LpcCoefficients {
+    pub status: u32,
+    pub a: [f32; 11],
+}
+
+fn refused_lsp(status: u32) -> LspSet
+    ensures { λ r. ⌜ r ≡ refusedLsp status ⌝ }
+{
+    LspSet {
+        status,
+        lsp: [0.0; 10],
+    }
+}
+
+fn refused_lpc(status: u32) -> LpcCoefficients
+    ensures { λ r. ⌜ r ≡ refusedLpc status ⌝ }
+{
+    LpcCoefficients {
+        status,
+        a: [0.0; 11],
+    }
+}
+
+// What the two sets weigh.
+struct Weights {
+    previous: f32,
+    current: f32,
+}
+
+fn weighing(choice: usize) -> Weights
+    ensures { λ r. ⌜ r ≡ record { previous = previousWeight choice; current = currentWeight choice } ⌝ }
+{
+    match choice {
+        0 => Weights {
+            previous: 0.75,
+            current: 0.25,
+        },
+        1 => Weights {
+            previous: 0.5,
+            current: 0.5,
+        },
+        2 => Weights {
+            previous: 0.25,
+            current: 0.75,
+        },
+        _ => Weights {
+            previous: 0.0,
+            current: 1.0,
+        },
+    }
+}
+
+// A choice above 2 is computed as the others are: a -0 of this set's can become +0.
+fn weigh(choice: usize, prev: &[f32; 10], cur: &[f32; 10]) -> [f32; 10]
+    ensures { λ r. ⌜ r ≡ table 10 (weighed choice (now (prev .entry)) (now (cur .entry))) ⌝ }
+{
+    let w = weighing(choice);
+    let previous = w.previous;
+    let current = w.current;
+    let mut lsp = [0.0f32; 10];
+    for i in 0..10 {
+        lsp[i] = previous * prev[i] + current * cur[i];
+    }
+    lsp
+}
+
+pub fn interpolate_lsp(choice: usize, prev: [f32; 10], cur: [f32; 10]) -> LspSet
+    ensures { λ r. ⌜ r ≡ interpolateLsp choice prev cur ⌝ }
+{
+    let finite_prev = float::all_finite(&prev);
+    let finite_cur = float::all_finite(&cur);
+    if !(finite_prev & finite_cur) {
+        return refused_lsp(5);
+    }
+    let lsp = weigh(choice, &prev, &cur);
+    LspSet { status: 0, lsp }
+}
+
+// The product of p with 1 - 2c z^-1 + z^-2, in place from its degree d down.
+fn times_quadratic(d: usize, c: f32, p: [f32; 11]) -> [f32; 11]
+    requires { ⌜ 2 ≤ d ⌝ ∗ ⌜ d ≤ 10 ⌝ }
+    ensures { λ r. ⌜ r ≡ quadratic d c p ⌝ }
+{
+    let mut out = p;
+    let mut i = d;
+    while 2 <= i {
+        out[i] = out[i] + (-2.0 * c * out[i - 1] + out[i - 2]);
+        i -= 1;
+    }
+    out[1] = out[1] - 2.0 * c * out[0];
+    out
+}
+
+// Five quadratics, of every other cosine from s on.
+fn side_of(lsp: &[f32; 10], s: usize) -> [f32; 11]
+    requires { ⌜ s ≤ 1 ⌝ }
+    ensures { λ r. ⌜ r ≡ side (now (lsp .entry)) s ⌝ }
+{
+    let mut p = [0.0f32; 11];
+    p[0] = 1.0;
+    for k in 0..5 {
+        let t = times_quadratic(2 * k + 2, lsp[2 * k + s], p);
+        p = t;
+    }
+    p
+}
+
+// The two trivial factors, halved.
+fn join_sides(p: &[f32; 11], q: &[f32; 11]) -> [f32; 11]
+    ensures { λ r. ⌜ r ≡ table 11 (halfSum (now (p .entry)) (now (q .entry))) ⌝ }
+{
+    let mut a = [0.0f32; 11];
+    a[0] = 1.0;
+    for i in 1..11 {
+        a[i] = 0.5 * ((0.0 + p[i - 1] + p[i]) + (0.0 - q[i - 1] + q[i]));
+    }
+    a
+}
+
+pub fn lsp_to_lpc(lsp: [f32; 10]) -> LpcCoefficients
+    ensures { λ r. ⌜ r ≡ lspToLpc lsp ⌝ }
+{
+    let finite = float::all_finite(&lsp);
+    if !finite {
+        return refused_lpc(5);
+    }
+    let p = side_of(&lsp, 0);
+    let q = side_of(&lsp, 1);
+    let a = join_sides(&p, &q);
+    LpcCoefficients { status: 0, a }
+}
+
+// The sums of a filter, seeded 1: its side f1, and its side f2.
+fn sum_side(a: &[f32; 11]) -> [f32; 6]
+    ensures { λ r. ⌜ r ≡ table 6 (seeded (plusNext (now (a .entry)))) ⌝ }
+{
+    let mut f = [0.0f32; 6];
+    f[0] = 1.0;
+    let mut prev = 1.0f32;
+    for i in 1..6 {
+        prev = a[i] + a[11 - i] - prev;
+        f[i] = prev;
+    }
+    f
+}
+
+fn difference_side(a: &[f32; 11]) -> [f32; 6]
+    ensures { λ r. ⌜ r ≡ table 6 (seeded (minusNext (now (a .entry)))) ⌝ }
+{
+    let mut f = [0.0f32; 6];
+    f[0] = 1.0;
+    let mut prev = 1.0f32;
+    for i in 1..6 {
+        prev = a[i] - a[11 - i] + prev;
+        f[i] = prev;
+    }
+    f
+}
+
+// A side's factors of the Chebyshev polynomials, in doubles.
+fn factors(f: &[f32; 6]) -> [f64; 6]
+    ensures { λ r. ⌜ r ≡ table 6 (factor (now (f .entry))) ⌝ }
+{
+    let mut c = [0.0f64; 6];
+    c[0] = std::num::f32_to_f64_with_nan(f[5]) * 0.5;
+    for m in 1..6 {
+        c[m] = std::num::f32_to_f64_with_nan(f[5 - m]);
+    }
+    c
+}
+
+// One step of Clenshaw's rule.
+fn step(x: f64, b1: f64, b2: f64, c: f64) -> f64
+    ensures { λ r. ⌜ r ≡ clenshawStep x b1 b2 c ⌝ }
+{
+    2.0 * x * b1 - b2 + c
+}
+
+fn value_at(c: &[f64; 6], x: f64) -> f64
+    ensures { λ r. ⌜ r ≡ valueAt (now (c .entry)) x ⌝ }
+{
+    let b5 = step(x, 0.0, 0.0, c[5]);
+    let b4 = step(x, b5, 0.0, c[4]);
+    let b3 = step(x, b4, b5, c[3]);
+    let b2 = step(x, b3, b4, c[2]);
+    let b1 = step(x, b2, b3, c[1]);
+    x * b1 - b2 + c[0]
+}
+
+// A point of the scan, exact.
+fn point_at(t: &[u32; 2049], i: usize) -> f64
+    requires { ⌜ now t ≡ quarterTable ⌝ ∗ ⌜ i ≤ 1024 ⌝ }
+    ensures { λ r. ⌜ r ≡ point i ⌝ }
+{
+    if i <= 512 {
+        return t[4 * i] as f64 / 1073741824.0;
+    }
+    -(t[4096 - 4 * i] as f64) / 1073741824.0
+}
+
+// The points that roots were met between, at most five.
+struct Crossings {
+    count: usize,
+    low: [f64; 5],
+    high: [f64; 5],
+}
+
+fn is_met(before: f64, here: f64) -> bool
+    ensures { λ r. ⌜ r ≡ met before here ⌝ }
+{
+    (before == 0.0) | (before * here < 0.0)
+}
+
+fn note(s: Crossings, low: f64, high: f64) -> Crossings
+    requires { ⌜ s .count < 5 ⌝ }
+    ensures { λ r. ⌜ r ≡ record { count = s .count + 1; low = set (s .low) (s .count) low; high = set (s .high) (s .count) high } ⌝ }
+{
+    let n = s.count;
+    let mut lows = s.low;
+    let mut highs = s.high;
+    lows[n] = low;
+    highs[n] = high;
+    Crossings {
+        count: n + 1,
+        low: lows,
+        high: highs,
+    }
+}
+
+// From cosine 1 down: five roots are enough.
+fn scan(t: &[u32; 2049], c: &[f64; 6]) -> Crossings
+    requires { ⌜ now t ≡ quarterTable ⌝ }
+    ensures { λ r. ⌜ r ≡ crossings (now (c .entry)) ⌝ }
+{
+    let mut s = Crossings {
+        count: 0,
+        low: [0.0; 5],
+        high: [0.0; 5],
+    };
+    let mut high = point_at(t, 0);
+    let mut before = value_at(c, high);
+    for i in 1..1025 {
+        let low = point_at(t, i);
+        let here = value_at(c, low);
+        let found = is_met(before, here);
+        if found {
+            let r = note(s, low, high);
+            s = r;
+            if 5 <= s.count {
+                return s;
+            }
+        }
+        high = low;
+        before = here;
+    }
+    s
+}
+
+// Two ends with a root between them, and the value at the low one.
+struct Bracket {
+    low: f64,
+    high: f64,
+    value: f64,
+}
+
+// A choice of values and not of ways, so that no branch is guessed wrong fifty times.
+fn pick(first: bool, x: f64, y: f64) -> f64
+    ensures { λ r. ⌜ r ≡ cond first x y ⌝ }
+{
+    if first { x } else { y }
+}
+
+fn halve(c: &[f64; 6], s: Bracket) -> Bracket
+    ensures { λ r. ⌜ r ≡ halved (now (c .entry)) s ⌝ }
+{
+    let m = 0.5 * (s.low + s.high);
+    let v = value_at(c, m);
+    let b = v * s.value < 0.0;
+    Bracket {
+        low: pick(b, s.low, m),
+        high: pick(b, m, s.high),
+        value: pick(b, s.value, v),
+    }
+}
+
+fn bracket_of(c: &[f64; 6], low: f64, high: f64) -> Bracket
+    ensures { λ r. ⌜ r ≡ bracket (now (c .entry)) low high ⌝ }
+{
+    Bracket {
+        low,
+        high,
+        value: value_at(c, low),
+    }
+}
+
+// What is recorded of two ends, once they have been halved to s.
+fn root_of(c: &[f64; 6], high: f64, s: Bracket) -> f32
+    ensures { λ r. ⌜ r ≡ narrow (cond (eq (valueAt (now (c .entry)) high) (double 0 1)) high (middle s)) ⌝ }
+{
+    if value_at(c, high) == 0.0 {
+        return float::narrow(high);
+    }
+    float::narrow(0.5 * (s.low + s.high))
+}
+
+// The five roots are halved side by side: none waits for another.
+fn refine(c: &[f64; 6], s: Crossings) -> [f32; 5]
+    ensures { λ r. ⌜ r ≡ table 5 (rootsIn (now (c .entry)) s) ⌝ }
+{
+    let low = s.low;
+    let high = s.high;
+    let mut s0 = bracket_of(c, low[0], high[0]);
+    let mut s1 = bracket_of(c, low[1], high[1]);
+    let mut s2 = bracket_of(c, low[2], high[2]);
+    let mut s3 = bracket_of(c, low[3], high[3]);
+    let mut s4 = bracket_of(c, low[4], high[4]);
+    for k in 0usize..50 {
+        let t0 = halve(c, s0);
+        let t1 = halve(c, s1);
+        let t2 = halve(c, s2);
+        let t3 = halve(c, s3);
+        let t4 = halve(c, s4);
+        s0 = t0;
+        s1 = t1;
+        s2 = t2;
+        s3 = t3;
+        s4 = t4;
+    }
+    let x0 = root_of(c, high[0], s0);
+    let x1 = root_of(c, high[1], s1);
+    let x2 = root_of(c, high[2], s2);
+    let x3 = root_of(c, high[3], s3);
+    let x4 = root_of(c, high[4], s4);
+    [x0, x1, x2, x3, x4]
+}
+
+// The two sides' roots in turn.
+fn take_turns(p: [f32; 5], q: [f32; 5]) -> [f32; 10]
+    ensures { λ r. ⌜ r ≡ table 10 (inTurn p q) ⌝ }
+{
+    let mut out = [0.0f32; 10];
+    for k in 0..5 {
+        out[2 * k] = p[k];
+        out[2 * k + 1] = q[k];
+    }
+    out
+}
+
+fn is_falling(x: &[f32; 10]) -> bool
+    ensures { λ r. ⌜ r ≡ falling 9 (now (x .entry)) ⌝ }
+{
+    let mut falls = true;
+    for k in 1..10 {
+        falls = falls & (x[k] < x[k - 1]);
+    }
+    falls
+}
+
+fn pair(t: &[u32; 2049], c: &[f64; 6], d: &[f64; 6]) -> LspSet
+    requires { ⌜ now t ≡ quarterTable ⌝ }
+    ensures { λ r. ⌜ r ≡ paired (now (c .entry)) (now (d .entry)) ⌝ }
+{
+    let p = scan(t, c);
+    if p.count < 5 {
+        return refused_lsp(7);
+    }
+    let q = scan(t, d);
+    if q.count < 5 {
+        return refused_lsp(7);
+    }
+    let x = refine(c, p);
+    let y = refine(d, q);
+    let lsp = take_turns(x, y);
+    let falls = is_falling(&lsp);
+    if !falls {
+        return refused_lsp(7);
+    }
+    LspSet { status: 0, lsp }
+}
+
+pub fn lpc_to_lsp(a: [f32; 11]) -> LspSet
+    ensures { λ r. ⌜ r ≡ lpcToLsp a ⌝ }
+{
+    let finite = float::all_finite(&a);
+    if !finite {
+        return refused_lsp(5);
+    }
+    let t = quarter::entries();
+    let f1 = sum_side(&a);
+    let f2 = difference_side(&a);
+    let c1 = factors(&f1);
+    let c2 = factors(&f2);
+    pair(&t, &c1, &c2)
+}

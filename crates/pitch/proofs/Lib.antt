@@ -1,0 +1,4 @@
+-- Laws that other crates cite.
+mod Powers
+pub mod Edge
+mod Settings

@@ -1,0 +1,195 @@
+// Open-loop pitch (§2.9) and the settings of harmonic noise shaping (§2.11), over the weighted speech: history, then the frame.
+use lags::Best;
+ghost use mathlib.Core.Path.{_≡_};
+ghost use Prim.Native.Nat.{_+_, _≤_, max};
+ghost use lib.Ieee.{nan};
+ghost use lib.ListN.{getD};
+ghost use Rattle.float.specs.Table.{table};
+ghost use Rattle.float.specs.Double.{_⊠_};
+ghost use Rattle.pitch.specs.Gate.{atMostOne, passes};
+ghost use Rattle.pitch.specs.Pitch.{refusedPitch, openLoopPitch};
+ghost use Rattle.pitch.specs.Shaping.{shapingOff, held, factor, settled, settings, refusedShaping, harmonicNoiseShaping};
+
+// The open-loop lag of one half of the frame.
+pub struct OpenLoop {
+    pub status: u32,
+    pub lag: u32,
+}
+
+// Settings of the harmonic noise shaping filter 1 − beta·z^−lag.
+pub struct HnsParams {
+    pub lag: u32,
+    pub beta: f32,
+}
+
+impl HnsParams {
+    // Shaping switched off.
+    pub fn off() -> Self
+        ensures { λ r. ⌜ r ≡ shapingOff ⌝ }
+    {
+        Self { lag: 18, beta: 0.0 }
+    }
+}
+
+pub struct Shaping {
+    pub status: u32,
+    pub params: HnsParams,
+}
+
+fn refused_pitch(status: u32) -> OpenLoop
+    ensures { λ r. ⌜ r ≡ refusedPitch status ⌝ }
+{
+    OpenLoop { status, lag: 0 }
+}
+
+// Half 0 or 1 of the frame that follows 145 samples of history.
+pub fn open_loop_pitch(wbuf: &[f32], half: usize) -> OpenLoop
+    ensures { λ r. ⌜ r ≡ openLoopPitch 142 (now (wbuf .entry)) half ⌝ }
+{
+    if 1 < half {
+        return refused_pitch(2);
+    }
+    let o = 145 + 120 * half;
+    let end = o + 120;
+    if wbuf.len() < end {
+        return refused_pitch(1);
+    }
+    let head = &wbuf[0..end];
+    let fine = float::all_finite(head);
+    if !fine {
+        return refused_pitch(5);
+    }
+    let mut x = [0.0f64; 265];
+    lags::widen(&mut x, &wbuf[o - 145..end]);
+    let mut squares = [0.0f64; 265];
+    lags::square(&mut squares, &x);
+    let best = lags::search_in(&x, &squares, 142);
+    OpenLoop {
+        status: 0,
+        lag: best.lag,
+    }
+}
+
+// ---- harmonic noise shaping
+
+fn at_most_one(q: f64) -> f64
+    ensures { λ r. ⌜ r ≡ atMostOne q ⌝ }
+{
+    if q < 1.0 { q } else { 1.0 }
+}
+
+// The filter takes away at least 2 dB: 10 t^5 is at most 1 for t = 1 − min(1, c / e). The quotient is the largest double t that passes.
+pub fn gate(c: f64, e: f64) -> bool
+    ensures { λ r. ⌜ r ≡ passes c e ⌝ }
+{
+    let t = 1.0 - at_most_one(c / e);
+    t <= 5683158522975351.0 / 9007199254740992.0
+}
+
+// Held to 0..1; a NaN stays.
+fn hold(gain: f64) -> f64
+    ensures { λ r. ⌜ r ≡ held gain ⌝ }
+{
+    if gain < 0.0 {
+        return 0.0;
+    }
+    if 1.0 < gain {
+        return 1.0;
+    }
+    gain
+}
+
+fn beta_of(gain: f64) -> f32
+    ensures { λ r. ⌜ r ≡ factor gain ⌝ }
+{
+    0.3125 * float::narrow(hold(gain))
+}
+
+// No lag counted, no energy or a failed gate: off.
+fn settle(best: Best, e: f64, gain: f64) -> HnsParams
+    ensures { λ r. ⌜ r ≡ settled best e gain ⌝ }
+{
+    if !best.found {
+        return HnsParams::off();
+    }
+    if e <= 0.0 {
+        return HnsParams::off();
+    }
+    let ratio = best.ratio;
+    let passed = gate(ratio, e);
+    if !passed {
+        return HnsParams::off();
+    }
+    let lag = best.lag;
+    let beta = beta_of(gain);
+    HnsParams { lag, beta }
+}
+
+fn refused_shaping(status: u32) -> Shaping
+    ensures { λ r. ⌜ r ≡ refusedShaping status ⌝ }
+{
+    let params = HnsParams { lag: 0, beta: 0.0 };
+    Shaping { status, params }
+}
+
+fn greater_of(a: u32, b: u32) -> u32
+    ensures { λ r. ⌜ r ≡ max a b ⌝ }
+{
+    if a < b { b } else { a }
+}
+
+// The settings for the 60 samples after limit + 3 samples of history. Lags l − 3 .. l + 3 lie nearer than 18 to each other, so the open-loop search finds the first greatest.
+fn shaping_in(x: &[f64; 265], squares: &[f64; 265], limit: u32, l: u32) -> HnsParams
+    requires { ⌜ limit ≤ 142 ⌝ ∗ ⌜ 18 ≤ l ⌝ ∗ ⌜ l ≤ limit ⌝ ∗ ⌜ now squares ≡ table 265 (λ i. getD (now x) i nan ⊠ getD (now x) i nan) ⌝ }
+    ensures { λ r. ⌜ r ≡ settings limit (now (x .entry)) (limit + 3) l ⌝ }
+{
+    let o = limit as usize + 3;
+    let e = lags::energy(squares, o, 60);
+    let first = l - 4;
+    let sums = lags::eight_lags(x, squares, o, 60, first as usize);
+    let none = Best {
+        found: false,
+        ratio: 0.0,
+        lag: 18,
+    };
+    let best = lags::compete(none, sums, first, greater_of(18, l - 3), l + 4);
+    if !best.found {
+        return HnsParams::off();
+    }
+    let lag = best.lag;
+    let i = (l + 3 - lag) as usize;
+    settle(best, e, sums.cross[i] / sums.power[i])
+}
+
+// The subframe of 60 samples at place, with 145 samples before it, around the open-loop lag.
+pub fn harmonic_noise_shaping(wbuf: &[f32], place: usize, l_ol: u32) -> Shaping
+    ensures { λ r. ⌜ r ≡ harmonicNoiseShaping 142 (now (wbuf .entry)) place «l_ol» ⌝ }
+{
+    if l_ol < 18 {
+        return refused_shaping(4);
+    }
+    if 142 < l_ol {
+        return refused_shaping(4);
+    }
+    if place < 145 {
+        return refused_shaping(3);
+    }
+    // place + 60 could wrap
+    if wbuf.len() < place {
+        return refused_shaping(3);
+    }
+    if wbuf.len() - place < 60 {
+        return refused_shaping(3);
+    }
+    let part = &wbuf[place - 145..place + 60];
+    let fine = float::all_finite(part);
+    if !fine {
+        return refused_shaping(5);
+    }
+    let mut x = [0.0f64; 265];
+    lags::widen(&mut x, part);
+    let mut squares = [0.0f64; 265];
+    lags::square(&mut squares, &x);
+    let params = shaping_in(&x, &squares, 142, l_ol);
+    Shaping { status: 0, params }
+}

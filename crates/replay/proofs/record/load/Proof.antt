@@ -1,0 +1,49 @@
+-- `replay::record::load` is safe and ends: out keeps its length, so every place read stands among the words. Assumes nothing.
+use mathlib.Core.Path.{_≡_}
+use Prim.Native.Nat.{_+_, _-_, _≤_}
+use native.Mathlib.Omega.{arith}
+use borrow.Author.Needs.{needs}
+use lib.ListN.{length, length-set}
+use Rattle.replay.proofs.record.load.Statement.{statement}
+use Rattle.replay.proofs.record.load.Tie as tie
+
+abbrev Inv-loop : tie.InvT-loop
+Inv-loop words at out₀ i₀ out i = (i ≤ length out) × (length out ≡ length out₀) × (at + length out₀ ≤ 512)
+
+abbrev μ-loop : tie.MeasureT-loop
+μ-loop words at out₀ i₀ out i = length out₀ - i
+
+pub load-spec : {M : Type 1} → statement M
+load-spec =
+    tie.close
+    (tie.spec
+    Inv-loop
+    μ-loop
+    -- loop-holds
+    (λ c. search needs)
+    -- add-of-bits
+    (λ c. search needs)
+    -- mul-of-bits
+    (λ c. search needs)
+    -- element-copy-out-of-bits
+    (λ c. search needs)
+    -- of-bits-requires
+    (λ c κs. search needs)
+    -- mul-out
+    (λ c. search needs)
+    -- slice-write-out
+    (λ c. search needs)
+    -- add-i
+    (λ c. search needs)
+    -- loop-less
+    (λ c. search needs)
+    -- loop-again
+    (λ c. (
+      simp length-set (omega arith),
+      simp length-set (c .before .before .before .loop .inv .1),
+      c .before .before .before .loop .inv .2,
+    ))
+    -- same-length
+    (λ c. search needs)
+    -- returns
+    (λ c. search needs))

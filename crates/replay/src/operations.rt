@@ -1,0 +1,285 @@
+// One function for each operation: it answers whether the library gives a record's answer. A record is the operation's number,
+// what is given, the status and the results; a refusal's results are zeros, and memories as they were.
+use crate::record::doubles_match;
+use crate::record::load;
+use crate::record::matches;
+use crate::record::wide;
+
+// How many samples a record of a variable length may give.
+const MOST: usize = 440;
+
+// The record's length with so many words beside its samples; 0 where there are too many.
+fn with_samples(words: &[u32; 512], others: usize) -> usize {
+    let n = words[1] as usize;
+    if n > MOST {
+        return 0;
+    }
+    if others > 512 {
+        return 0;
+    }
+    n + others
+}
+
+// How many words the record has, by its operation; 0 where there is none.
+pub fn length_of(words: &[u32; 512]) -> usize {
+    let operation = words[0];
+    match operation {
+        1 => with_samples(words, 37),
+        2 => 23,
+        3 | 4 => 22,
+        5 => 33,
+        6 => 23,
+        7 => 24,
+        8 => 34,
+        9 => 23,
+        10 => 33,
+        11 => with_samples(words, 123),
+        12 => with_samples(words, 6),
+        13 => with_samples(words, 8),
+        14 => 505,
+        15 => 95,
+        _ => 0,
+    }
+}
+
+// Whether the library gives the record's answer.
+pub fn agrees(words: &[u32; 512]) -> bool {
+    let operation = words[0];
+    match operation {
+        1 => lpc_analysis(words),
+        2 => lpc_to_lsp(words),
+        3 => lsp_cosines_to_freq(words),
+        4 => lsp_freq_to_cosines(words),
+        5 => quantise_lsp_freq(words),
+        6 => decode_lsp_freq(words),
+        7 => enforce_lsp_stability(words),
+        8 => interpolate_lsp(words),
+        9 => lsp_to_lpc(words),
+        10 => weighting_taps(words),
+        11 => weight_subframe(words),
+        12 => open_loop_pitch(words),
+        13 => harmonic_noise_shaping(words),
+        14 => run_combined(words),
+        15 => combined_impulse_response(words),
+        _ => false,
+    }
+}
+
+fn lpc_analysis(words: &[u32; 512]) -> bool {
+    let n = words[1] as usize;
+    if n > MOST {
+        return false;
+    }
+    let mut samples = [0.0f32; 440];
+    load(words, 2, &mut samples);
+    let answer = lpc::lpc_analysis(&samples[0..n]);
+    let set = answer.set;
+    let a = set.a;
+    let r = set.r;
+    let at = n + 2;
+    let same_a = matches(&a, words, at + 1);
+    let same_r = doubles_match(&r, words, at + 12);
+    let same_k2 = float::same_bits(set.k2, words[at + 34]);
+    (answer.status == words[at]) & same_a & same_r & same_k2
+}
+
+fn lpc_to_lsp(words: &[u32; 512]) -> bool {
+    let mut a = [0.0f32; 11];
+    load(words, 1, &mut a);
+    let answer = lsp::lpc_to_lsp(a);
+    let lines = answer.lsp;
+    let same = matches(&lines, words, 13);
+    (answer.status == words[12]) & same
+}
+
+fn lsp_cosines_to_freq(words: &[u32; 512]) -> bool {
+    let mut cosines = [0.0f32; 10];
+    load(words, 1, &mut cosines);
+    let answer = spec_lsp::lsp_cosines_to_freq(cosines);
+    let freq = answer.lines;
+    let same = matches(&freq, words, 12);
+    (answer.status == words[11]) & same
+}
+
+fn lsp_freq_to_cosines(words: &[u32; 512]) -> bool {
+    let mut freq = [0.0f32; 10];
+    load(words, 1, &mut freq);
+    let answer = spec_lsp::lsp_freq_to_cosines(freq);
+    let cosines = answer.lines;
+    let same = matches(&cosines, words, 12);
+    (answer.status == words[11]) & same
+}
+
+fn quantise_lsp_freq(words: &[u32; 512]) -> bool {
+    let mut p = [0.0f32; 10];
+    let mut prev = [0.0f32; 10];
+    load(words, 1, &mut p);
+    load(words, 11, &mut prev);
+    let answer = spec_lsp::quantise::quantise_lsp_freq(p, prev);
+    let set = answer.set;
+    let same = matches(&set, words, 23);
+    (answer.status == words[21]) & (answer.index == words[22]) & same
+}
+
+fn decode_lsp_freq(words: &[u32; 512]) -> bool {
+    let mut prev = [0.0f32; 10];
+    load(words, 2, &mut prev);
+    let answer = spec_lsp::decode::decode_lsp_freq(words[1], prev);
+    let set = answer.set;
+    let same = matches(&set, words, 13);
+    (answer.status == words[12]) & same
+}
+
+fn enforce_lsp_stability(words: &[u32; 512]) -> bool {
+    let mut cosines = [0.0f32; 10];
+    load(words, 1, &mut cosines);
+    let spacing = float::of_bits(words[11]);
+    let answer = stability::enforce_lsp_stability(cosines, spacing);
+    let lines = answer.cosines;
+    let same = matches(&lines, words, 13);
+    (answer.status == words[12]) & same & ((answer.converged as u32) == words[23])
+}
+
+fn interpolate_lsp(words: &[u32; 512]) -> bool {
+    let mut prev = [0.0f32; 10];
+    let mut cur = [0.0f32; 10];
+    load(words, 3, &mut prev);
+    load(words, 13, &mut cur);
+    let choice = wide(words[1], words[2]) as usize;
+    let answer = lsp::interpolate_lsp(choice, prev, cur);
+    let lines = answer.lsp;
+    let same = matches(&lines, words, 24);
+    (answer.status == words[23]) & same
+}
+
+fn lsp_to_lpc(words: &[u32; 512]) -> bool {
+    let mut lines = [0.0f32; 10];
+    load(words, 1, &mut lines);
+    let answer = lsp::lsp_to_lpc(lines);
+    let a = answer.a;
+    let same = matches(&a, words, 12);
+    (answer.status == words[11]) & same
+}
+
+fn weighting_taps(words: &[u32; 512]) -> bool {
+    let mut a = [0.0f32; 11];
+    load(words, 1, &mut a);
+    let answer = weighting::weighting_taps(a);
+    let zeros = answer.wz;
+    let poles = answer.wp;
+    let same_zeros = matches(&zeros, words, 13);
+    let same_poles = matches(&poles, words, 23);
+    (answer.status == words[12]) & same_zeros & same_poles
+}
+
+fn weight_subframe(words: &[u32; 512]) -> bool {
+    let n = words[1] as usize;
+    if n > 380 {
+        return false;
+    }
+    let at = n + 2;
+    let mut samples = [0.0f32; 440];
+    let mut wz = [0.0f32; 10];
+    let mut wp = [0.0f32; 10];
+    let mut x_mem = [0.0f32; 10];
+    let mut f_mem = [0.0f32; 10];
+    load(words, 2, &mut samples);
+    load(words, at, &mut wz);
+    load(words, at + 10, &mut wp);
+    load(words, at + 20, &mut x_mem);
+    load(words, at + 30, &mut f_mem);
+    let answer = weighting::weight_subframe(&samples[0..n], wz, wp, x_mem, f_mem);
+    let inputs = answer.x_mem;
+    let outputs = answer.f_mem;
+    let out = answer.out;
+    let same_inputs = matches(&inputs, words, at + 41);
+    let same_outputs = matches(&outputs, words, at + 51);
+    let same_out = matches(&out, words, at + 61);
+    (answer.status == words[at + 40]) & same_inputs & same_outputs & same_out
+}
+
+fn open_loop_pitch(words: &[u32; 512]) -> bool {
+    let n = words[1] as usize;
+    if n > MOST {
+        return false;
+    }
+    let at = n + 2;
+    let mut samples = [0.0f32; 440];
+    load(words, 2, &mut samples);
+    let half = wide(words[at], words[at + 1]) as usize;
+    let answer = pitch::open_loop_pitch(&samples[0..n], half);
+    (answer.status == words[at + 2]) & (answer.lag == words[at + 3])
+}
+
+fn harmonic_noise_shaping(words: &[u32; 512]) -> bool {
+    let n = words[1] as usize;
+    if n > MOST {
+        return false;
+    }
+    let at = n + 2;
+    let mut samples = [0.0f32; 440];
+    load(words, 2, &mut samples);
+    let place = wide(words[at], words[at + 1]) as usize;
+    let answer = pitch::harmonic_noise_shaping(&samples[0..n], place, words[at + 2]);
+    let params = answer.params;
+    let same = float::same_bits(params.beta, words[at + 5]);
+    (answer.status == words[at + 3]) & (params.lag == words[at + 4]) & same
+}
+
+fn run_combined(words: &[u32; 512]) -> bool {
+    let mut syn = [0.0f32; 10];
+    let mut wz_mem = [0.0f32; 10];
+    let mut wp_mem = [0.0f32; 10];
+    let mut p_hist = [0.0f32; 145];
+    let mut input = [0.0f32; 60];
+    let mut aq = [0.0f32; 11];
+    let mut wz = [0.0f32; 10];
+    let mut wp = [0.0f32; 10];
+    load(words, 1, &mut syn);
+    load(words, 11, &mut wz_mem);
+    load(words, 21, &mut wp_mem);
+    load(words, 31, &mut p_hist);
+    load(words, 176, &mut input);
+    load(words, 236, &mut aq);
+    load(words, 247, &mut wz);
+    load(words, 257, &mut wp);
+    let mem = combined::CombinedMem {
+        syn,
+        wz: wz_mem,
+        wp: wp_mem,
+        p_hist,
+    };
+    let beta = float::of_bits(words[268]);
+    let answer = combined::run_combined(mem, input, aq, wz, wp, words[267], beta);
+    let after = answer.mem;
+    let out = answer.out;
+    let same_mem = memory_matches(after, words);
+    let same_out = matches(&out, words, 445);
+    (answer.status == words[269]) & same_mem & same_out
+}
+
+fn memory_matches(mem: combined::CombinedMem, words: &[u32; 512]) -> bool {
+    let syn = mem.syn;
+    let wz = mem.wz;
+    let wp = mem.wp;
+    let p_hist = mem.p_hist;
+    let same_syn = matches(&syn, words, 270);
+    let same_wz = matches(&wz, words, 280);
+    let same_wp = matches(&wp, words, 290);
+    let same_hist = matches(&p_hist, words, 300);
+    same_syn & same_wz & same_wp & same_hist
+}
+
+fn combined_impulse_response(words: &[u32; 512]) -> bool {
+    let mut aq = [0.0f32; 11];
+    let mut wz = [0.0f32; 10];
+    let mut wp = [0.0f32; 10];
+    load(words, 1, &mut aq);
+    load(words, 12, &mut wz);
+    load(words, 22, &mut wp);
+    let beta = float::of_bits(words[33]);
+    let answer = combined::combined_impulse_response(aq, wz, wp, words[32], beta);
+    let out = answer.out;
+    let same = matches(&out, words, 35);
+    (answer.status == words[34]) & same
+}

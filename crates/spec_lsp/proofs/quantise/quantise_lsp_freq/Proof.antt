@@ -1,0 +1,19 @@
+-- `spec_lsp::quantise::quantise_lsp_freq` meets its contract: the quantiser over the built-in rows. Assumes nothing.
+use borrow.Author.Needs.{needs}
+use mathlib.Core.Path.{_∙_, ap}
+use mathlib.Core.List.{List}
+use lib.IntN.{ℤ}
+use Rattle.spec_lsp.specs.Quantise.{quantiseLspFreq}
+use Rattle.spec_lsp.proofs.quantise.quantise_lsp_freq.Statement.{statement}
+use Rattle.spec_lsp.proofs.quantise.quantise_lsp_freq.Tie as tie
+
+pub quantise-lsp-freq-spec : {M : Type 1} → statement M
+quantise-lsp-freq-spec =
+    tie.close
+    (tie.spec
+    -- lsp-rows-requires
+    (λ c κs. search needs)
+    -- quantise-in-requires
+    (λ c κs. search needs)
+    -- returns
+    (λ c. c .quantise-in .ensures ∙ ap (λ (rows : List ℤ). quantiseLspFreq rows (c .before .before .before .args .p) (c .before .before .before .args .prev)) (c .before .before .lsp-rows .ensures)))

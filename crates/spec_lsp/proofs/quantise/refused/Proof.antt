@@ -1,0 +1,12 @@
+-- `spec_lsp::quantise::refused` meets its contract: ten zeros. Assumes nothing.
+use mathlib.Core.Path.{refl}
+use lib.Ieee.{ofBits}
+use Rattle.spec_lsp.proofs.quantise.refused.Statement.{statement}
+use Rattle.spec_lsp.proofs.quantise.refused.Tie as tie
+
+returns : tie.Need-returns
+unfolding ofBits
+returns c = refl
+
+pub refused-spec : {M : Type 1} → statement M
+refused-spec = tie.close (tie.spec returns)

@@ -1,0 +1,135 @@
+// The quantiser of a line set (§2.5): its index is what is sent, and its set is what the decoder makes of that.
+ghost use mathlib.Core.Path.{_≡_};
+ghost use Prim.Native.Nat.{_<_};
+ghost use Rattle.spec_tables.specs.Codebook.{lspRows};
+ghost use Rattle.spec_lsp.specs.Quantise.{smaller, larger, weightOf, nearest, weights, target, chosen, indexOf, refusedIndex, quantiseLspFreq};
+use crate::decode;
+use crate::index;
+use spec_tables::LspBand;
+
+pub struct Quantised {
+    pub status: u32,
+    pub index: u32,
+    pub set: [f32; 10],
+}
+
+// A refusal: its number, and zeros.
+fn refused(status: u32) -> Quantised
+    ensures { λ r. ⌜ r ≡ refusedIndex status ⌝ }
+{
+    Quantised {
+        status,
+        index: 0,
+        set: [0.0f32; 10],
+    }
+}
+
+fn smaller(x: f32, y: f32) -> f32
+    ensures { λ r. ⌜ r ≡ smaller x y ⌝ }
+{
+    if y < x { y } else { x }
+}
+
+fn larger(x: f32, y: f32) -> f32
+    ensures { λ r. ⌜ r ≡ larger x y ⌝ }
+{
+    if x < y { y } else { x }
+}
+
+// The inverse of a gap, no gap counting as less than 1.
+fn weight_of(gap: f32) -> f32
+    ensures { λ r. ⌜ r ≡ weightOf gap ⌝ }
+{
+    1.0 / larger(1.0, gap)
+}
+
+// The smaller gap to a neighbour.
+fn nearest(p: [f32; 10], i: usize) -> f32
+    requires { ⌜ i < 10 ⌝ }
+    ensures { λ r. ⌜ r ≡ nearest p i ⌝ }
+{
+    if i == 0 {
+        return p[1] - p[0];
+    }
+    if i == 9 {
+        return p[9] - p[8];
+    }
+    smaller(p[i] - p[i - 1], p[i + 1] - p[i])
+}
+
+fn lsp_weights(p: [f32; 10]) -> [f32; 10]
+    ensures { λ r. ⌜ r ≡ weights p ⌝ }
+{
+    let mut w = [0.0f32; 10];
+    for i in 0..10 {
+        w[i] = weight_of(nearest(p, i));
+    }
+    w
+}
+
+// What the previous set does not foretell.
+fn residual_target(p: [f32; 10], prev: [f32; 10]) -> [f32; 10]
+    ensures { λ r. ⌜ r ≡ target p prev ⌝ }
+{
+    let dc = spec_tables::lsp_dc_predicted_freq();
+    let mut t = [0.0f32; 10];
+    for i in 0..10 {
+        let rest = dc[i] as f32;
+        t[i] = p[i] - rest - decode::predict(prev[i], rest);
+    }
+    t
+}
+
+// The row that a band takes.
+fn choose(rows: &[i16; 2560], target: &[f32; 10], weights: &[f32; 10], band: LspBand) -> u8
+    ensures { λ r. ⌜ r ≡ chosen (now (rows .entry)) (now (target .entry)) (now (weights .entry)) band ⌝ }
+{
+    match band {
+        LspBand::Band0 => row_search::best_row(rows, 0, 3, 256, target, weights, 0) as u8,
+        LspBand::Band1 => row_search::best_row(rows, 768, 3, 256, target, weights, 3) as u8,
+        LspBand::Band2 => row_search::best_row(rows, 1536, 4, 256, target, weights, 6) as u8,
+    }
+}
+
+fn best_index(rows: &[i16; 2560], p: [f32; 10], prev: [f32; 10]) -> u32
+    ensures { λ r. ⌜ r ≡ indexOf (now (rows .entry)) p prev ⌝ }
+{
+    let t = residual_target(p, prev);
+    let w = lsp_weights(p);
+    let a = choose(rows, &t, &w, LspBand::Band0);
+    let b = choose(rows, &t, &w, LspBand::Band1);
+    let c = choose(rows, &t, &w, LspBand::Band2);
+    index::combine_lsp_index([a, b, c])
+}
+
+// The quantiser over rows that the caller lends.
+pub fn quantise_in(rows: &[i16; 2560], p: [f32; 10], prev: [f32; 10]) -> Quantised
+    ensures { λ r. ⌜ r ≡ quantiseLspFreq (now (rows .entry)) p prev ⌝ }
+{
+    if !float::all_finite(&p) {
+        return refused(5);
+    }
+    if !float::all_finite(&prev) {
+        return refused(5);
+    }
+    if float::any_exceeds(&p, 65536.0) {
+        return refused(6);
+    }
+    if float::any_exceeds(&prev, 65536.0) {
+        return refused(6);
+    }
+    let index = best_index(rows, p, prev);
+    let set = decode::decode_set(rows, index, prev);
+    Quantised {
+        status: 0,
+        index,
+        set,
+    }
+}
+
+pub fn quantise_lsp_freq(p: [f32; 10], prev: [f32; 10]) -> Quantised
+    ensures { λ r. ⌜ r ≡ quantiseLspFreq lspRows p prev ⌝ }
+{
+    let t = spec_tables::lsp_rows();
+    quantise_in(&t, p, prev)
+}

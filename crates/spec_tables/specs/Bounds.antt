@@ -1,0 +1,22 @@
+-- Numbers between two bounds, and the test that a list of code rows must pass: no number outside −8,192..8,192. It is written over any list,
+-- since rows that are not built in must pass the same.
+-- Assumes nothing.
+use mathlib.Core.Bool.{Bool, true, _&&_}
+use mathlib.Core.List.{List, [], _∷_}
+use lib.IntN.{ℤ, pos}
+use lib.Signed.{leZ, _≤ℤ_}
+use Rattle.spec_tables.specs.Codebook.{neg}
+
+pub record Inside (low high z : ℤ) : Type 0 where
+  pub least : low ≤ℤ z
+  pub most : z ≤ℤ high
+
+abbrev pub inside : ℤ → ℤ → ℤ → Bool
+inside low high z = leZ low z && leZ z high
+
+unfoldable pub allInside : ℤ → ℤ → List ℤ → Bool
+allInside low high [] = true
+allInside low high (z ∷ zs) = inside low high z && allInside low high zs
+
+unfoldable pub rowsPass : List ℤ → Bool
+rowsPass rows = allInside (neg 8192) (pos 8192) rows

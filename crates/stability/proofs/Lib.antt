@@ -1,0 +1,4 @@
+-- Laws of the stability procedure that callers cite.
+pub mod Angles
+pub mod Spread
+pub mod Bounded

@@ -1,0 +1,104 @@
+-- `stability::pass` meets its contract: after j turns the state is that of the first j pairs. Assumes nothing.
+use borrow.Author.Needs.{needs}
+use mathlib.Core.Path.{_≡_, _∙_}
+use mathlib.Core.Bool.{Bool, true, false, cond}
+use mathlib.Core.List.{List}
+use mathlib.Core.Logic.{⊎-elim}
+use Prim.Native.Nat.{ℕ, _+_, _-_, _<_, zero-le}
+use native.Mathlib.Numerals.{add-one}
+use lib.ListN.{set}
+use lib.Ieee.{Float, binary32, ofBits, round, lt}
+use Rattle.float.specs.Single.{_⊕_, _⊖_, _⊗_, single}
+use Rattle.float.specs.Vector.{at}
+use Rattle.float.proofs.Loop.{Went, went-none, went-more, went-all}
+use Rattle.stability.specs.Spacing.{half, least}
+use Rattle.stability.specs.Passes.{close, apart, spread, pass}
+use Rattle.stability.specs.declared.Settled.{Settled}
+use Rattle.stability.proofs.pass.Statement.{statement}
+use Rattle.stability.proofs.pass.Tie as tie
+
+abbrev state : List Float → Bool → Settled
+state ω b = record { angles = ω; converged = b }
+
+abbrev Inv-loop : tie.InvT-loop
+Inv-loop delta half tol omega₀ converged₀ j₀ omega converged j = Went 0 9 (spread delta) (state omega₀ true) j (state omega converged)
+
+abbrev μ-loop : tie.MeasureT-loop
+μ-loop delta half tol omega₀ converged₀ j₀ omega converged j = 9 - j
+
+-- the test and the move, as the code writes them
+abbrev tested : Float → List Float → ℕ → Bool
+tested delta ω j = lt (at ω (j + 1) ⊖ at ω j) (delta ⊖ delta ⊗ ofBits binary32 925353388)
+
+abbrev moved : Float → List Float → ℕ → List Float
+moved delta ω j =
+    let middle = ofBits binary32 1056964608 ⊗ (at ω j ⊕ at ω (j + 1)) in
+    set (set ω j (middle ⊖ ofBits binary32 1056964608 ⊗ delta)) (j + 1) (middle ⊕ ofBits binary32 1056964608 ⊗ delta)
+
+same-test : (delta : Float) (ω : List Float) (j : ℕ) → tested delta ω j ≡ close delta ω j
+unfolding close least single round ofBits
+same-test delta ω j = rw add-one
+
+same-move : (delta : Float) (ω : List Float) (j : ℕ) → moved delta ω j ≡ apart delta ω j
+unfolding apart half single round ofBits
+same-move delta ω j = rw add-one
+
+both : (ω ω' : List Float) (b b' : Bool) → ω' ≡ ω → b' ≡ b → state ω' b' ≡ state ω b
+both ω ω' b b' e f = rw (e, f)
+
+-- one turn, by what the test says
+turn : (delta : Float) (ω₀ ω ω' : List Float) (b b' : Bool) (j : ℕ) (t : Bool) → j < 9 → tested delta ω j ≡ t → state ω' b' ≡ cond t (state (moved delta ω j) false) (state ω b) →
+    Went 0 9 (spread delta) (state ω₀ true) j (state ω b) → Went 0 9 (spread delta) (state ω₀ true) (j + 1) (state ω' b')
+unfolding spread
+turn delta ω₀ ω ω' b b' j t h e f r = went-more 0 9 (spread delta) (state ω₀ true) j (state ω b) (state ω' b') h (f ∙ rw (← e, same-test, same-move)) r
+
+pub pass-spec : {M : Type 1} → statement M
+unfolding pass
+pass-spec =
+    tie.close
+    (tie.spec
+    Inv-loop
+    μ-loop
+    -- loop-holds
+    (λ c. went-none 0 9 _ _ (zero-le))
+    -- add-if1
+    (λ c. search needs)
+    -- mul-if1
+    (λ c. search needs)
+    -- array-read-if1
+    (λ c. search needs)
+    -- mul-if1-2
+    (λ c. search needs)
+    -- array-read-if1-2
+    (λ c. search needs)
+    -- mul-mid
+    (λ c. search needs)
+    -- array-read-mid
+    (λ c. search needs)
+    -- add-mid
+    (λ c. search needs)
+    -- mul-mid-2
+    (λ c. search needs)
+    -- array-read-mid-2
+    (λ c. search needs)
+    -- mul-omega
+    (λ c. search needs)
+    -- array-write-omega
+    (λ c. search needs)
+    -- add-omega
+    (λ c. search needs)
+    -- mul-omega-2
+    (λ c. search needs)
+    -- array-write-omega-2
+    (λ c. search needs)
+    -- add-j
+    (λ c. search needs)
+    -- loop-less
+    (λ c. search needs)
+    -- loop-again
+    (λ c. ⊎-elim
+    (λ w. turn _ _ _ _ _ _ _ true (c .before .loop-test .taken) (w .0 .taken) (both _ _ _ _ (w .1) (w .2)) (c .before .before .loop .inv))
+    (λ w. turn _ _ _ _ _ _ _ false (c .before .loop-test .taken) (w .0 .left) (both _ _ _ _ (w .1) (w .2)) (c .before .before .loop .inv))
+    (c .if1 .came))
+    -- returns
+    (λ c. went-all 0 9 _ _ _ _ (c .loop-test .left) (c .before .loop .inv)))

@@ -1,0 +1,43 @@
+-- The stability procedure whole (§2.6, §3.10): cosines to angles, the passes, the clamps, and back to cosines.
+-- Document 01, B36 to B41. What `converged` tells is of the passes, before the clamps. Assumes nothing.
+use Prim.Native.Nat.{ℕ}
+use mathlib.Core.Bool.{false}
+use mathlib.Core.List.{List, [], _∷_, map}
+use lib.Ieee.{Float}
+use Rattle.float.specs.Finite.{notFinite}
+use Rattle.float.specs.Refusal.{first, answer}
+use Rattle.float.specs.Vector.{zeros}
+use Rattle.cosine.specs.Cosine.{cosineSingle}
+use Rattle.cosine.specs.Step.{held, step}
+use Rattle.cosine.specs.Angle.{angle, stepOfAngle}
+use Rattle.stability.specs.Spacing.{spacing, outside}
+use Rattle.stability.specs.Passes.{settled}
+use Rattle.stability.specs.Clamps.{clamped}
+use Rattle.stability.specs.declared.Settled.{Settled}
+use Rattle.stability.specs.declared.Stabilised.{Stabilised}
+
+-- a cosine, held to −1..1, to its step and to the angle of that
+abbrev pub angleOf : Float → Float
+angleOf c = angle (step (held c))
+
+-- an angle to the step at or below it, and to the cosine of that
+abbrev pub cosineOf : Float → Float
+cosineOf a = cosineSingle (stepOfAngle a)
+
+-- the angles that the answer is made of, clamped, with what the passes told
+unfoldable pub stable : Float → List Float → Settled
+stable delta ω =
+    let s = settled delta ω in
+    record { angles = clamped delta (s .angles); converged = s .converged }
+
+abbrev pub done : Settled → Stabilised
+done s = record { status = 0; cosines = map cosineOf (s .angles); converged = s .converged }
+
+abbrev pub refusal : ℕ → Stabilised
+refusal n = record { status = n; cosines = zeros 10; converged = false }
+
+unfoldable pub enforced : List Float → Float → Stabilised
+enforced c hz =
+    answer (first ((5, notFinite (hz ∷ c)) ∷ (6, outside hz) ∷ []))
+    refusal
+    (done (stable (spacing hz) (map angleOf c)))

@@ -1,0 +1,149 @@
+//! Checks that what docs/REVIEW.md names is there.
+
+use oracle::args::{fail, Args};
+use oracle::sources;
+use std::collections::BTreeMap;
+use std::fs;
+use std::path::{Path, PathBuf};
+
+const HELP: &str = "\
+review: check that every file, theorem, edit and test that docs/REVIEW.md names exists
+
+  --file PATH        the page (docs/REVIEW.md of the repository around this folder)
+  --sentences PATH   document 01 numbered by sentence (../shared/01-sentences.md beside the repository, if it is there)
+  --help             this text
+
+A row of the page is `| C5 | \"Cosine of step k\" | .. |`: a sentence's number, its first words, what answers for it.
+A name in backquotes with a slash and no space is a path from the top of the repository, or a path and a name in that file, as
+`crates/cosine/specs/Cosine.antt#cosine`. Each path must exist, and each name must stand in its file outside comments.
+Where the numbered sentences are at hand, each row's words must open its sentence.
+Exit status: 0 all is there; 1 something is missing; 2 bad usage.
+";
+
+fn main() {
+    let mut args = Args::new(HELP);
+    let top = sources::top().unwrap_or_else(|why| fail(&why));
+    let file = args.value("--file").unwrap_or_else(|| top.join("docs/REVIEW.md"));
+    let named: Option<PathBuf> = args.value("--sentences");
+    args.end();
+    let default = top.join("../shared/01-sentences.md");
+    let sentences = match named {
+        Some(path) => Some(read(&path)),
+        None if default.is_file() => Some(read(&default)),
+        None => None,
+    };
+    let sentences = sentences.map(|text| numbered(&text));
+    let (mut faults, mut rows, mut bare, mut names) = (0, 0, 0, 0);
+    for (i, line) in read(&file).lines().enumerate() {
+        let mut wrong = |what: String| {
+            println!("{}:{}: {what}", file.display(), i + 1);
+            faults += 1;
+        };
+        let before = names;
+        for name in line.split('`').skip(1).step_by(2).filter(|name| name.contains('/') && !name.contains(' ')) {
+            names += 1;
+            if let Err(what) = exists(&top, name) {
+                wrong(what);
+            }
+        }
+        if let Some(row) = row(line) {
+            rows += 1;
+            bare += usize::from(names == before);
+            if let Some(Err(what)) = sentences.as_ref().map(|all| opens(all, &row)) {
+                wrong(what);
+            }
+        }
+    }
+    if rows == 0 {
+        println!("{}: no row", file.display());
+        faults += 1;
+    }
+    let held = match &sentences {
+        Some(all) => format!(", held to the {} sentences of document 01", all.len()),
+        None => String::new(),
+    };
+    println!("{rows} rows ({bare} without a path), {names} names{held}: {faults} faults");
+    if faults > 0 {
+        fail("docs/REVIEW.md names what is not there");
+    }
+}
+
+fn read(path: &Path) -> String {
+    fs::read_to_string(path).unwrap_or_else(|e| fail(&format!("{}: {e}", path.display())))
+}
+
+struct Row<'a> {
+    number: &'a str,
+    words: &'a str,
+}
+
+/// A row of the table: a letter and a number first, then words in quotation marks.
+fn row(line: &str) -> Option<Row<'_>> {
+    let mut cells = line.strip_prefix('|')?.split('|').map(str::trim);
+    let number = cells.next()?;
+    let (letter, digits) = number.split_at_checked(1)?;
+    let numbered =
+        letter.as_bytes()[0].is_ascii_uppercase() && !digits.is_empty() && digits.bytes().all(|b| b.is_ascii_digit());
+    numbered.then(|| Row { number, words: cells.next().unwrap_or("").trim_matches('"') })
+}
+
+/// The sentences by number, without marks of emphasis.
+fn numbered(text: &str) -> BTreeMap<String, String> {
+    let lines = text.lines().filter_map(|line| line.strip_prefix("- ")?.split_once(". "));
+    lines.map(|(number, sentence)| (number.to_string(), without_marks(sentence))).collect()
+}
+
+fn without_marks(text: &str) -> String {
+    text.replace(['`', '*', '"'], "").split_whitespace().collect::<Vec<_>>().join(" ")
+}
+
+fn opens(all: &BTreeMap<String, String>, row: &Row) -> Result<(), String> {
+    let words = without_marks(row.words.trim_end_matches(['.', '…', ' ']));
+    match all.get(row.number) {
+        None => Err(format!("document 01 has no sentence {}", row.number)),
+        Some(_) if words.is_empty() => Err(format!("the row of {} does not quote its sentence", row.number)),
+        Some(sentence) if !sentence.starts_with(&words) => {
+            Err(format!("{} opens with other words: {sentence}", row.number))
+        }
+        Some(_) => Ok(()),
+    }
+}
+
+/// Whether a path, or a name in the file at a path, is there.
+fn exists(top: &Path, name: &str) -> Result<(), String> {
+    let (path, inner) = match name.split_once('#') {
+        Some((path, inner)) => (path, Some(inner)),
+        None => (name, None),
+    };
+    let full = top.join(path.trim_start_matches('/'));
+    if !full.exists() {
+        return Err(format!("{path} is not there"));
+    }
+    let Some(inner) = inner else { return Ok(()) };
+    let text = fs::read_to_string(&full).map_err(|e| format!("{path}: {e}"))?;
+    if has_name(&without_comments(path, &text), inner) {
+        Ok(())
+    } else {
+        Err(format!("{path} has no {inner}"))
+    }
+}
+
+/// A source without its comments.
+fn without_comments(path: &str, text: &str) -> String {
+    let mark = match path.rsplit('.').next() {
+        Some("rt" | "rs" | "c" | "h") => "//",
+        Some("antt") => "--",
+        _ => return text.to_string(),
+    };
+    text.lines().map(|line| line.split(mark).next().unwrap_or("")).collect::<Vec<_>>().join("\n")
+}
+
+/// Whether a name stands in a text by itself, and not as part of a longer one.
+fn has_name(text: &str, name: &str) -> bool {
+    let part = |c: char| c.is_alphanumeric() || "_-'".contains(c);
+    !name.is_empty()
+        && text.match_indices(name).any(|(at, _)| {
+            let before = text[..at].chars().next_back().is_none_or(|c| !part(c));
+            before && text[at + name.len()..].chars().next().is_none_or(|c| !part(c))
+        })
+}

@@ -1,0 +1,180 @@
+//! The fifteen operations as document 01 has them: its refusals, in its order, and then the Rust's function.
+//!
+//! Each takes the words of its input and answers the words of its result, or the number of its refusal.
+
+use crate::words::{Reader, Words};
+
+type Ten = [f32; 10];
+type Eleven = [f32; 11];
+type Subframe = [f32; 60];
+
+/// The memories of the combined filter.
+pub struct Memory {
+    pub syn: Ten,
+    pub wz: Ten,
+    pub wp: Ten,
+    pub p_hist: [f32; 145],
+}
+
+/// The Rust's functions. There are two such sets: as published, and with document 01's rules.
+pub struct Rust {
+    pub lpc_analysis: fn(&[f32]) -> (Eleven, [f64; 11], f32),
+    pub lpc_to_lsp: fn(&Eleven) -> Option<Ten>,
+    pub lsp_cosines_to_freq: fn(&Ten) -> Ten,
+    pub lsp_freq_to_cosines: fn(&Ten) -> Ten,
+    pub quantise_lsp_freq: fn(&Ten, &Ten) -> (u32, Ten),
+    pub decode_lsp_freq: fn(u32, &Ten) -> Ten,
+    pub enforce_lsp_stability: fn(&Ten, f32) -> (Ten, bool),
+    pub interpolate_lsp: fn(usize, &Ten, &Ten) -> Ten,
+    pub lsp_to_lpc: fn(&Ten) -> Eleven,
+    pub weighting_taps: fn(&Eleven) -> (Ten, Ten),
+    pub weight_subframe: fn(&[f32], &Ten, &Ten, &mut Ten, &mut Ten) -> Subframe,
+    pub open_loop_pitch: fn(&[f32], usize) -> i32,
+    pub harmonic_noise_shaping: fn(&[f32], usize, i32) -> (i32, f32),
+    pub run_combined: fn(Memory, &Subframe, &Eleven, &Ten, &Ten, i32, f32) -> (Memory, Subframe),
+    pub combined_impulse_response: fn(&Eleven, &Ten, &Ten, i32, f32) -> Subframe,
+}
+
+pub type Answer = Result<Words, u32>;
+
+const LENGTH: u32 = 1;
+const CHOICE: u32 = 2;
+const PLACE: u32 = 3;
+const LAG: u32 = 4;
+const NOT_FINITE: u32 = 5;
+const MAGNITUDE: u32 = 6;
+const NO_LINE_SET: u32 = 7;
+
+fn refuse(status: u32, when: bool) -> Result<(), u32> {
+    if when {
+        Err(status)
+    } else {
+        Ok(())
+    }
+}
+
+fn finite(lists: &[&[f32]]) -> Result<(), u32> {
+    refuse(NOT_FINITE, lists.iter().any(|list| list.iter().any(|x| !x.is_finite())))
+}
+
+fn in_magnitude(lists: &[&[f32]]) -> Result<(), u32> {
+    refuse(MAGNITUDE, lists.iter().any(|list| list.iter().any(|x| x.abs() > 65_536.0)))
+}
+
+pub fn lpc_analysis(rust: &Rust, mut given: Reader) -> Answer {
+    let window = given.samples();
+    refuse(LENGTH, window.len() != 180)?;
+    finite(&[&window])?;
+    let (a, r, k2) = (rust.lpc_analysis)(&window);
+    Ok(Words::default().singles(&a).doubles(&r).single(k2))
+}
+
+pub fn lpc_to_lsp(rust: &Rust, mut given: Reader) -> Answer {
+    let a = given.singles();
+    finite(&[&a])?;
+    let lsp = (rust.lpc_to_lsp)(&a).ok_or(NO_LINE_SET)?;
+    Ok(Words::default().singles(&lsp))
+}
+
+pub fn lsp_cosines_to_freq(rust: &Rust, mut given: Reader) -> Answer {
+    let cosines = given.singles();
+    finite(&[&cosines])?;
+    Ok(Words::default().singles(&(rust.lsp_cosines_to_freq)(&cosines)))
+}
+
+pub fn lsp_freq_to_cosines(rust: &Rust, mut given: Reader) -> Answer {
+    let freq = given.singles();
+    finite(&[&freq])?;
+    in_magnitude(&[&freq])?;
+    Ok(Words::default().singles(&(rust.lsp_freq_to_cosines)(&freq)))
+}
+
+pub fn quantise_lsp_freq(rust: &Rust, mut given: Reader) -> Answer {
+    let (p, prev) = (given.singles(), given.singles());
+    finite(&[&p, &prev])?;
+    in_magnitude(&[&p, &prev])?;
+    let (index, set) = (rust.quantise_lsp_freq)(&p, &prev);
+    Ok(Words::default().number(index).singles(&set))
+}
+
+pub fn decode_lsp_freq(rust: &Rust, mut given: Reader) -> Answer {
+    let (index, prev) = (given.number(), given.singles());
+    finite(&[&prev])?;
+    in_magnitude(&[&prev])?;
+    Ok(Words::default().singles(&(rust.decode_lsp_freq)(index, &prev)))
+}
+
+pub fn enforce_lsp_stability(rust: &Rust, mut given: Reader) -> Answer {
+    let (cosines, spacing) = (given.singles(), given.single());
+    finite(&[&cosines, &[spacing]])?;
+    refuse(MAGNITUDE, !(0.0..=400.0).contains(&spacing))?;
+    let (out, converged) = (rust.enforce_lsp_stability)(&cosines, spacing);
+    Ok(Words::default().singles(&out).number(converged.into()))
+}
+
+pub fn interpolate_lsp(rust: &Rust, mut given: Reader) -> Answer {
+    let (choice, prev, cur) = (given.word(), given.singles(), given.singles());
+    finite(&[&prev, &cur])?;
+    Ok(Words::default().singles(&(rust.interpolate_lsp)(choice, &prev, &cur)))
+}
+
+pub fn lsp_to_lpc(rust: &Rust, mut given: Reader) -> Answer {
+    let lsp = given.singles();
+    finite(&[&lsp])?;
+    Ok(Words::default().singles(&(rust.lsp_to_lpc)(&lsp)))
+}
+
+pub fn weighting_taps(rust: &Rust, mut given: Reader) -> Answer {
+    let a = given.singles();
+    finite(&[&a])?;
+    let (wz, wp) = (rust.weighting_taps)(&a);
+    Ok(Words::default().singles(&wz).singles(&wp))
+}
+
+pub fn weight_subframe(rust: &Rust, mut given: Reader) -> Answer {
+    let x = given.samples();
+    let (wz, wp) = (given.singles(), given.singles());
+    let (mut x_mem, mut f_mem) = (given.singles(), given.singles());
+    refuse(LENGTH, x.len() != 60)?;
+    finite(&[&x, &wz, &wp, &x_mem, &f_mem])?;
+    let out = (rust.weight_subframe)(&x, &wz, &wp, &mut x_mem, &mut f_mem);
+    Ok(Words::default().singles(&x_mem).singles(&f_mem).singles(&out))
+}
+
+pub fn open_loop_pitch(rust: &Rust, mut given: Reader) -> Answer {
+    let (wbuf, half) = (given.samples(), given.word());
+    refuse(CHOICE, half > 1)?;
+    let end = 145 + 120 * half + 120;
+    refuse(LENGTH, wbuf.len() < end)?;
+    finite(&[&wbuf[..end]])?;
+    Ok(Words::default().number((rust.open_loop_pitch)(&wbuf, half) as u32))
+}
+
+pub fn harmonic_noise_shaping(rust: &Rust, mut given: Reader) -> Answer {
+    let (wbuf, place, l_ol) = (given.samples(), given.word(), given.number());
+    refuse(LAG, !(18..=142).contains(&l_ol))?;
+    // The place is any machine word: nothing is added to it before it is known to be small.
+    refuse(PLACE, place < 145 || place > wbuf.len() || wbuf.len() - place < 60)?;
+    finite(&[&wbuf[place - 145..place + 60]])?;
+    let (lag, beta) = (rust.harmonic_noise_shaping)(&wbuf, place, l_ol as i32);
+    Ok(Words::default().number(lag as u32).single(beta))
+}
+
+pub fn run_combined(rust: &Rust, mut given: Reader) -> Answer {
+    let memory = Memory { syn: given.singles(), wz: given.singles(), wp: given.singles(), p_hist: given.singles() };
+    let input = given.singles();
+    let (aq, wz, wp) = (given.singles(), given.singles(), given.singles());
+    let (lag, beta) = (given.number(), given.single());
+    refuse(LAG, !(18..=145).contains(&lag))?;
+    finite(&[&memory.syn, &memory.wz, &memory.wp, &memory.p_hist, &input, &aq, &wz, &wp, &[beta]])?;
+    let (after, out) = (rust.run_combined)(memory, &input, &aq, &wz, &wp, lag as i32, beta);
+    Ok(Words::default().singles(&after.syn).singles(&after.wz).singles(&after.wp).singles(&after.p_hist).singles(&out))
+}
+
+pub fn combined_impulse_response(rust: &Rust, mut given: Reader) -> Answer {
+    let (aq, wz, wp) = (given.singles(), given.singles(), given.singles());
+    let (lag, beta) = (given.number(), given.single());
+    refuse(LAG, !(18..=145).contains(&lag))?;
+    finite(&[&aq, &wz, &wp, &[beta]])?;
+    Ok(Words::default().singles(&(rust.combined_impulse_response)(&aq, &wz, &wp, lag as i32, beta)))
+}
