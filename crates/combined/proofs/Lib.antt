@@ -3,3 +3,4 @@ pub mod Harmonic
 pub mod History
 pub mod Stages
 pub mod Cascaded
+pub mod Kept

@@ -11,7 +11,7 @@ ghost use Rattle.float.specs.Table.{table};
 ghost use Rattle.weighting.specs.Line.{behind};
 ghost use Rattle.combined.specs.Memory.{reach, atRest, shaped, floats};
 ghost use Rattle.combined.specs.Cascade.{settings, synthesised, cascaded};
-ghost use Rattle.combined.specs.Run.{done, refusal, runCombined, impulseResponse};
+ghost use Rattle.combined.specs.Run.{done, refusal, runCombined, answered, impulseResponse};
 
 // How many harmonic inputs the history holds: the longest lag.
 pub const REACH: usize = 145;
@@ -42,6 +42,11 @@ pub struct Combined {
     pub status: u32,
     pub out: [f32; 60],
     pub mem: CombinedMem,
+}
+
+pub struct CombinedOut {
+    pub status: u32,
+    pub out: [f32; 60],
 }
 
 pub struct ImpulseResponse {
@@ -218,6 +223,29 @@ pub fn run_combined(
         return refused(5, mem);
     }
     run(mem, input, aq, wz, wp, lag, beta)
+}
+
+// One subframe through the filter, whose memory is lent. It is altered only where nothing is refused.
+pub fn run_combined_lent(
+    mem: &mut CombinedMem,
+    input: [f32; 60],
+    aq: [f32; 11],
+    wz: [f32; 10],
+    wp: [f32; 10],
+    lag: u32,
+    beta: f32,
+) -> CombinedOut
+    ensures { λ r. ⌜ (r ≡ answered (runCombined (settings aq wz wp lag beta) input (now (mem .entry)))) × (now (mem .exit) ≡ runCombined (settings aq wz wp lag beta) input (now (mem .entry)) .mem) ⌝ }
+{
+    let m = *mem;
+    let r = run_combined(m, input, aq, wz, wp, lag, beta);
+    let status = r.status;
+    let out = r.out;
+    if status == 0 {
+        let after = r.mem;
+        *mem = after;
+    }
+    CombinedOut { status, out }
 }
 
 // The filter's response to the unit impulse, from rest.
