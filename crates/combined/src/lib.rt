@@ -248,6 +248,30 @@ pub fn run_combined_lent(
     CombinedOut { status, out }
 }
 
+// The same for a memory that travels by value: a local is lent, so that a program without lent memory of its own runs the lent form.
+pub fn run_combined_lending(
+    mem: CombinedMem,
+    input: [f32; 60],
+    aq: [f32; 11],
+    wz: [f32; 10],
+    wp: [f32; 10],
+    lag: u32,
+    beta: f32,
+) -> Combined
+    ensures { λ r. ⌜ r ≡ runCombined (settings aq wz wp lag beta) input mem ⌝ }
+{
+    let mut held = mem;
+    let r = run_combined_lent(&mut held, input, aq, wz, wp, lag, beta);
+    let status = r.status;
+    let out = r.out;
+    let after = held;
+    Combined {
+        status,
+        out,
+        mem: after,
+    }
+}
+
 // The filter's response to the unit impulse, from rest.
 pub fn combined_impulse_response(
     aq: [f32; 11],
