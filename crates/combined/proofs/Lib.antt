@@ -4,3 +4,4 @@ pub mod History
 pub mod Stages
 pub mod Cascaded
 pub mod Kept
+pub mod Passed
