@@ -1,4 +1,7 @@
--- Laws of the cascade and of its history.
+-- Laws of the cascade, of its delay lines and of its history.
 pub mod Harmonic
 pub mod History
+pub mod Stages
 pub mod Cascaded
+pub mod Kept
+pub mod Passed

@@ -11,6 +11,7 @@ use Rattle.float.specs.Single.{single}
 use Rattle.float.specs.Vector.{zeros}
 use Rattle.combined.specs.declared.CombinedMem.{CombinedMem}
 use Rattle.combined.specs.declared.Combined.{Combined}
+use Rattle.combined.specs.declared.CombinedOut.{CombinedOut}
 use Rattle.combined.specs.declared.ImpulseResponse.{ImpulseResponse}
 use Rattle.combined.specs.Memory.{reach, last, atRest, floats}
 use Rattle.combined.specs.Cascade.{Settings, Cascade, cascaded}
@@ -36,6 +37,10 @@ wild q input mem = any notFinite (floats mem) || any notFinite (input ∷ q .aq 
 
 unfoldable pub runCombined : Settings → List Float → CombinedMem → Combined
 runCombined q input mem = answer (first ((4, wrongLag (q .lag)) ∷ (5, wild q input mem) ∷ [])) (refusal mem) (done (cascaded q input mem 60))
+
+-- the answer without the memory
+abbrev pub answered : Combined → CombinedOut
+answered r = record { status = r .status; out = r .out }
 
 abbrev pub impulse : List Float
 impulse = single 1 1 ∷ zeros 59

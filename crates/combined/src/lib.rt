@@ -11,7 +11,7 @@ ghost use Rattle.float.specs.Table.{table};
 ghost use Rattle.weighting.specs.Line.{behind};
 ghost use Rattle.combined.specs.Memory.{reach, atRest, shaped, floats};
 ghost use Rattle.combined.specs.Cascade.{settings, synthesised, cascaded};
-ghost use Rattle.combined.specs.Run.{done, refusal, runCombined, impulseResponse};
+ghost use Rattle.combined.specs.Run.{done, refusal, runCombined, answered, impulseResponse};
 
 // How many harmonic inputs the history holds: the longest lag.
 pub const REACH: usize = 145;
@@ -42,6 +42,11 @@ pub struct Combined {
     pub status: u32,
     pub out: [f32; 60],
     pub mem: CombinedMem,
+}
+
+pub struct CombinedOut {
+    pub status: u32,
+    pub out: [f32; 60],
 }
 
 pub struct ImpulseResponse {
@@ -113,7 +118,8 @@ fn last_inputs(p: [f32; REACH + 60]) -> [f32; REACH]
     p_hist
 }
 
-// One subframe. Each sample of the input is replaced in its line by what a stage makes of it, and nothing is moved until the subframe ends.
+// One subframe. Each stage has a delay line in which its samples replace those of the input, and nothing is moved until the subframe ends. Synthesis
+// is one sample ahead of the weighting, so that the two sums, each a chain of its own, run side by side.
 fn run(
     mem: CombinedMem,
     input: [f32; 60],
@@ -133,14 +139,22 @@ fn run(
     let mut syn = weighting::delay_line(syn_mem, &input);
     let mut xs = weighting::delay_line(wz_mem, &input);
     let mut fs = weighting::delay_line(wp_mem, &input);
-    for n in 0..60 {
-        let x = syn[n + 10];
-        let s = synthesise_sample(x, n, &aq, &syn);
+    let x = syn[10];
+    let s = synthesise_sample(x, 0, &aq, &syn);
+    syn[10] = s;
+    xs[10] = s;
+    for n in 0..59 {
+        let s = xs[n + 10];
         let f = weighting::weight_sample(s, n, &wz, &wp, &xs, &fs);
-        syn[n + 10] = s;
-        xs[n + 10] = s;
+        let x = syn[n + 11];
+        let t = synthesise_sample(x, n + 1, &aq, &syn);
         fs[n + 10] = f;
+        syn[n + 11] = t;
+        xs[n + 11] = t;
     }
+    let s = xs[69];
+    let f = weighting::weight_sample(s, 59, &wz, &wp, &xs, &fs);
+    fs[69] = f;
     let p = harmonic_inputs(p_hist, fs);
     let out = shape(p, lag as usize, beta);
     let after = CombinedMem {
@@ -209,6 +223,53 @@ pub fn run_combined(
         return refused(5, mem);
     }
     run(mem, input, aq, wz, wp, lag, beta)
+}
+
+// One subframe through the filter, whose memory is lent. It is altered only where nothing is refused.
+pub fn run_combined_lent(
+    mem: &mut CombinedMem,
+    input: [f32; 60],
+    aq: [f32; 11],
+    wz: [f32; 10],
+    wp: [f32; 10],
+    lag: u32,
+    beta: f32,
+) -> CombinedOut
+    ensures { λ r. ⌜ (r ≡ answered (runCombined (settings aq wz wp lag beta) input (now (mem .entry)))) × (now (mem .exit) ≡ runCombined (settings aq wz wp lag beta) input (now (mem .entry)) .mem) ⌝ }
+{
+    let m = *mem;
+    let r = run_combined(m, input, aq, wz, wp, lag, beta);
+    let status = r.status;
+    let out = r.out;
+    if status == 0 {
+        let after = r.mem;
+        *mem = after;
+    }
+    CombinedOut { status, out }
+}
+
+// The same for a memory that travels by value: a local is lent, so that a program without lent memory of its own runs the lent form.
+pub fn run_combined_lending(
+    mem: CombinedMem,
+    input: [f32; 60],
+    aq: [f32; 11],
+    wz: [f32; 10],
+    wp: [f32; 10],
+    lag: u32,
+    beta: f32,
+) -> Combined
+    ensures { λ r. ⌜ r ≡ runCombined (settings aq wz wp lag beta) input mem ⌝ }
+{
+    let mut held = mem;
+    let r = run_combined_lent(&mut held, input, aq, wz, wp, lag, beta);
+    let status = r.status;
+    let out = r.out;
+    let after = held;
+    Combined {
+        status,
+        out,
+        mem: after,
+    }
 }
 
 // The filter's response to the unit impulse, from rest.

@@ -1,19 +1,19 @@
--- `combined::run` meets its contract: after n turns the lines are those of n samples. Assumes nothing.
+-- `combined::run` meets its contract: after n turns the lines are those of n samples, synthesis one ahead. Assumes nothing.
 use borrow.Author.Needs.{needs}
 use mathlib.Core.Path.{refl}
 use Prim.Native.Nat.{_-_}
 use lib.ListN.{drop}
 use Rattle.combined.specs.Cascade.{settings}
-use Rattle.combined.proofs.Cascaded.{Cascaded, held, cascaded-none, cascaded-turn, cascaded-end}
+use Rattle.combined.proofs.Cascaded.{Cascaded, held, cascaded-none, cascaded-more, cascaded-end}
 use Rattle.combined.proofs.run.Statement.{statement}
 use Rattle.combined.proofs.run.Tie as tie
 
--- memory and input are those that the lines start with
+-- the memory is the one that the lines start with, and the input stands in the line that no sample is stored in before the loop
 abbrev Inv-loop : tie.InvT-loop
-Inv-loop lag beta aq wz wp p-hist syn₀ xs₀ fs₀ n₀ syn xs fs n = Cascaded (settings aq wz wp lag beta) (drop 10 syn₀) (held p-hist syn₀ xs₀ fs₀) n syn xs fs
+Inv-loop lag beta aq wz wp p-hist syn₀ xs₀ fs₀ x s n₀ syn xs fs n = Cascaded (settings aq wz wp lag beta) (drop 10 fs₀) (held p-hist syn₀ xs₀ fs₀) n syn xs fs
 
 abbrev μ-loop : tie.MeasureT-loop
-μ-loop lag beta aq wz wp p-hist syn₀ xs₀ fs₀ n₀ syn xs fs n = 60 - n
+μ-loop lag beta aq wz wp p-hist syn₀ xs₀ fs₀ x s n₀ syn xs fs n = 59 - n
 
 pub run-spec : {M : Type 1} → statement M
 run-spec =
@@ -33,42 +33,64 @@ run-spec =
     (λ c. search needs)
     -- delay-line-requires-3
     (λ c κs. search needs)
-    -- loop-holds
-    (λ c. cascaded-none _ _ _ _ _ (search needs) (search needs) (search needs) (search needs))
-    -- add-x
-    (λ c. search needs)
-    -- mul-x
-    (λ c. search needs)
     -- array-read-x
     (λ c. search needs)
     -- synthesise-sample-requires
     (λ c κs. search needs)
-    -- weight-sample-requires
-    (λ c κs. search needs)
-    -- add-syn
-    (λ c. search needs)
-    -- mul-syn
-    (λ c. search needs)
     -- array-write-syn
-    (λ c. search needs)
-    -- add-xs
-    (λ c. search needs)
-    -- mul-xs
     (λ c. search needs)
     -- array-write-xs
     (λ c. search needs)
+    -- loop-holds
+    (λ c. cascaded-none _ _ _ _ _ _ (c .before .before .before .before .before .before .before .delay-line .ensures) (c .before .before .before .before .before .delay-line2 .ensures) (c .before .before .before .delay-line3 .ensures) _ (search needs) (c .synthesise-sample .ensures))
+    -- add-s
+    (λ c. search needs)
+    -- mul-s
+    (λ c. search needs)
+    -- array-read-s
+    (λ c. search needs)
+    -- weight-sample-requires
+    (λ c κs. search needs)
+    -- add-x
+    (λ c. search needs)
+    -- mul-x
+    (λ c. search needs)
+    -- array-read-x-2
+    (λ c. search needs)
+    -- add-synthesise-sample
+    (λ c. search needs)
+    -- synthesise-sample-requires-2
+    (λ c κs. search needs)
     -- add-fs
     (λ c. search needs)
     -- mul-fs
     (λ c. search needs)
     -- array-write-fs
     (λ c. search needs)
+    -- add-syn
+    (λ c. search needs)
+    -- mul-syn
+    (λ c. search needs)
+    -- array-write-syn-2
+    (λ c. search needs)
+    -- add-xs
+    (λ c. search needs)
+    -- mul-xs
+    (λ c. search needs)
+    -- array-write-xs-2
+    (λ c. search needs)
     -- add-n
     (λ c. search needs)
     -- loop-less
     (λ c. search needs)
     -- loop-again
-    (λ c. cascaded-turn _ _ _ _ _ _ _ (c .before .before .before .before .before .before .before .before .loop-test .taken) (c .before .before .before .before .before .before .before .before .before .loop .inv) _ _ _ refl (c .before .before .before .before .before .synthesise-sample .ensures) (c .weight-sample .ensures))
+    (λ c. cascaded-more _ _ _ _ _ _ _ (c .before .before .before .before .before .before .before .before .before .loop .inv) _ _ refl (c .before .before .before .weight-sample .ensures) (c .before .before .before .before .before .before .before .before .loop-test .taken) _ _ refl (c .synthesise-sample2 .ensures))
+    -- array-read-s-2
+    (λ c. search needs)
+    -- weight-sample-requires-2
+    (λ c κs. search needs)
+    -- array-write-fs-2
+    (λ c. search needs)
     -- harmonic-inputs-requires
     (λ c κs. search needs)
     -- shape-requires
@@ -82,5 +104,5 @@ run-spec =
     -- last-inputs-requires
     (λ c κs. search needs)
     -- returns
-    (λ c. cascaded-end _ _ _ _ _ _ _ _ _ _ _ _ _ _ _ _ (search needs) (c .before .before .before .before .before .before .before .before .before .before .before .before .before .before .before .delay-line .ensures) (c .before .before .before .before .before .before .before .before .before .before .before .before .before .delay-line2 .ensures) (c .before .before .before .before .before .before .before .before .before .before .before .delay-line3 .ensures) (c .before .before .before .before .before .before .before .before .before .loop-test .left)
-    (c .before .before .before .before .before .before .before .before .harmonic-inputs .ensures) (c .before .before .before .before .before .before .before .shape .ensures) (c .before .before .before .before .before .last-ten .ensures) (c .before .before .before .last-ten2 .ensures) (c .before .last-ten3 .ensures) (c .last-inputs .ensures) (c .before .before .before .before .before .before .before .before .before .before .loop .inv)))
+    (λ c. cascaded-end _ _ _ _ _ _ _ _ _ _ _ _ _ _ _ _ _ _ _ (c .before .before .before .before .before .before .before .before .before .before .before .before .before .before .before .before .before .before .before .before .before .before .before .before .before .before .before .before .before .pre .0) (c .before .before .before .before .before .before .before .before .before .before .before .before .before .before .before .before .before .before .before .before .before .before .before .delay-line .ensures) (c .before .before .before .before .before .before .before .before .before .before .before .before .before .before .before .before .before .before .before .before .before .delay-line2 .ensures) (c .before .before .before .before .before .before .before .before .before .before .before .before .before .before .before .before .before .before .before .delay-line3 .ensures) (c .before .before .before .before .before .before .before .before .before .before .before .before .before .before .loop-test .left) refl (c .before .before .before .before .before .before .before .before .before .weight-sample2 .ensures)
+    (c .before .before .before .before .before .before .before .before .harmonic-inputs .ensures) (c .before .before .before .before .before .before .before .shape .ensures) (c .before .before .before .before .before .last-ten .ensures) (c .before .before .before .last-ten2 .ensures) (c .before .last-ten3 .ensures) (c .last-inputs .ensures) (c .before .before .before .before .before .before .before .before .before .before .before .before .before .before .before .loop .inv)))
