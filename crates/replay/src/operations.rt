@@ -8,7 +8,7 @@ ghost use mathlib.Core.Path.{_≡_};
 ghost use Prim.Native.Nat.{_≤_};
 
 // How many samples a record of a variable length may give.
-const MOST: usize = 500;
+const MOST: usize = 505;
 
 fn count(w: u32) -> usize
     ensures { λ r. ⌜ r ≡ w ⌝ }
@@ -78,7 +78,7 @@ fn lpc_analysis(words: &[u32; 512]) -> bool {
     if n > 470 {
         return false;
     }
-    let mut samples = [0.0f32; 500];
+    let mut samples = [0.0f32; 510];
     load(words, 2, &mut samples);
     let answer = lpc::lpc_analysis(&samples[0..n]);
     let set = answer.set;
@@ -184,7 +184,7 @@ fn weighted(words: &[u32; 512], n: usize) -> weighting::Weighted
     requires { ⌜ n ≤ 380 ⌝ }
 {
     let at = n + 2;
-    let mut samples = [0.0f32; 500];
+    let mut samples = [0.0f32; 510];
     let mut wz = [0.0f32; 10];
     let mut wp = [0.0f32; 10];
     let mut x_mem = [0.0f32; 10];
@@ -220,7 +220,7 @@ fn open_loop_pitch(words: &[u32; 512]) -> bool {
         return false;
     }
     let at = n + 2;
-    let mut samples = [0.0f32; 500];
+    let mut samples = [0.0f32; 510];
     load(words, 2, &mut samples);
     let half = wide(words[at], words[at + 1]) as usize;
     let answer = pitch::open_loop_pitch(&samples[0..n], half);
@@ -229,11 +229,11 @@ fn open_loop_pitch(words: &[u32; 512]) -> bool {
 
 fn harmonic_noise_shaping(words: &[u32; 512]) -> bool {
     let n = count(words[1]);
-    if n > MOST {
+    if n > 500 {
         return false;
     }
     let at = n + 2;
-    let mut samples = [0.0f32; 500];
+    let mut samples = [0.0f32; 510];
     load(words, 2, &mut samples);
     let place = wide(words[at], words[at + 1]) as usize;
     let answer = pitch::harmonic_noise_shaping(&samples[0..n], place, words[at + 2]);
