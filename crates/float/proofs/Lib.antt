@@ -5,6 +5,7 @@ pub mod Loop
 pub mod Change
 pub mod Turns
 pub mod All
+pub mod Tested
 pub mod Any
 pub mod Order
 pub mod Strict

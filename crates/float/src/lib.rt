@@ -20,18 +20,16 @@ pub fn is_finite(x: f32) -> bool
     (-infinity < x) & (x < infinity)
 }
 
-// Every element is finite.
+// Every element is finite. All are tested, with no early end, so that several are tested at once.
 pub fn all_finite(s: &[f32]) -> bool
     ensures { λ r. ⌜ r ≡ all finite (now (s .entry)) ⌝ }
 {
-    let mut i = 0;
-    while i < s.len() {
-        if !is_finite(s[i]) {
-            return false;
-        }
-        i += 1;
+    let mut passed = true;
+    for i in 0..s.len() {
+        let one = is_finite(s[i]);
+        passed = passed & one;
     }
-    true
+    passed
 }
 
 // Above the bound, or below its negative.
