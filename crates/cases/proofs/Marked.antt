@@ -1,4 +1,4 @@
--- Every marked case holds: antt computes each definition. Assumes nothing.
+-- Every marked case holds: antt computes each definition. The dear ones stand alone, since antt counts the steps of a declaration. Assumes nothing.
 use mathlib.Core.Path.{refl}
 use mathlib.Core.List.{flatten}
 use lib.Ieee.{neg, round, add, sub, mul, div, ofInt, lt, eq, le}
@@ -22,9 +22,21 @@ use Rattle.lsp.specs.Polynomial.{coefficient, quadratic, side, plusFactor, minu
 use Rattle.pitch.specs.Gate.{gate, atMostOne, passes}
 use Rattle.lpc.specs.Correlation.{windowed, lagged, correlation, lagWeight, corrected, sums}
 use Rattle.lpc.specs.Analysis.{trivial, setOf, lpcAnalysis}
-use Rattle.cases.specs.Marked.{marked, All}
+use Rattle.cases.specs.Marked.{Holds, splits, decodes, quantises, dc, dc+8, dc+3, set66051, marked, All}
+
+decodes-66051 : Holds (decodes 66051 dc set66051)
+unfolding flatten neg round add sub mul div ofInt lt eq le single double table times all rounded quarterRows quarter entry folded blend scaled cosine held above step lspBand0 lspBand1 lspBand2 lspRows windowRows hammingWindow squared term rowError better among predicted rebuilt bandRow rowNumbers decoded decodeLspFreq smaller larger nearest weightOf weights target chosen indexOf quantiseBy quantiseLspFreq previousWeight currentWeight weighed interpolateLsp coefficient quadratic side plusFactor minusFactor halfSum lspToLpc gate atMostOne passes windowed lagged correlation lagWeight corrected sums trivial setOf lpcAnalysis
+decodes-66051 = refl
+
+quantises-66051 : Holds (quantises set66051 dc 66051)
+unfolding flatten neg round add sub mul div ofInt lt eq le single double table times all rounded quarterRows quarter entry folded blend scaled cosine held above step lspBand0 lspBand1 lspBand2 lspRows windowRows hammingWindow squared term rowError better among predicted rebuilt bandRow rowNumbers decoded decodeLspFreq smaller larger nearest weightOf weights target chosen indexOf quantiseBy quantiseLspFreq previousWeight currentWeight weighed interpolateLsp coefficient quadratic side plusFactor minusFactor halfSum lspToLpc gate atMostOne passes windowed lagged correlation lagWeight corrected sums trivial setOf lpcAnalysis
+quantises-66051 = refl
+
+decodes-0 : Holds (decodes 0 dc+8 dc+3)
+unfolding flatten neg round add sub mul div ofInt lt eq le single double table times all rounded quarterRows quarter entry folded blend scaled cosine held above step lspBand0 lspBand1 lspBand2 lspRows windowRows hammingWindow squared term rowError better among predicted rebuilt bandRow rowNumbers decoded decodeLspFreq smaller larger nearest weightOf weights target chosen indexOf quantiseBy quantiseLspFreq previousWeight currentWeight weighed interpolateLsp coefficient quadratic side plusFactor minusFactor halfSum lspToLpc gate atMostOne passes windowed lagged correlation lagWeight corrected sums trivial setOf lpcAnalysis
+decodes-0 = refl
 
 pub marked-hold : All marked
 unfolding flatten neg round add sub mul div ofInt lt eq le single double table times all rounded quarterRows quarter entry folded blend scaled cosine held above step lspBand0 lspBand1 lspBand2 lspRows windowRows hammingWindow squared term rowError better among predicted rebuilt bandRow rowNumbers decoded decodeLspFreq smaller larger nearest weightOf weights target chosen indexOf quantiseBy quantiseLspFreq previousWeight currentWeight weighed interpolateLsp coefficient quadratic side plusFactor minusFactor halfSum lspToLpc gate atMostOne passes windowed lagged correlation lagWeight corrected sums trivial setOf lpcAnalysis
 marked-hold =
-    (refl, (refl, (refl, (refl, (refl, (refl, (refl, (refl, (refl, (refl, (refl, (refl, (refl, (refl, (refl, (refl, (refl, (refl, (refl, ((refl, refl), tt))))))))))))))))))))
+    (refl, (refl, (decodes-66051, (quantises-66051, (decodes-0, (refl, (refl, (refl, (refl, (refl, (refl, (refl, (refl, (refl, (refl, (refl, (refl, (refl, (refl, ((refl, refl), tt))))))))))))))))))))

@@ -5,7 +5,7 @@ use mathlib.Core.List.{List, [], _∷_, map}
 use Prim.Native.Nat.{ℕ, _+_, _^_}
 use lib.ListN.{replicate}
 use lib.Ieee.{Float, neg}
-use Rattle.float.specs.Single.{_⊕_, single}
+use Rattle.float.specs.Single.{single}
 use Rattle.float.specs.Double.{double}
 use Rattle.float.specs.Table.{table}
 use Rattle.float.specs.Vector.{zeros}
@@ -22,15 +22,19 @@ use Rattle.lsp.specs.Polynomial.{lspToLpc}
 use Rattle.pitch.specs.Gate.{passes}
 use Rattle.lpc.specs.Analysis.{lpcAnalysis}
 
--- whole numbers as singles; the resting set; n more than it
+-- whole numbers as singles, and the resting set
 abbrev pub whole : List ℕ → List Float
 whole = map (λ n. single n 1)
 
 abbrev pub dc : List Float
 dc = table 10 (number dcFreq)
 
-abbrev pub raised : ℕ → List Float
-raised n = map (λ x. x ⊕ single n 1) dc
+-- 8 more than the resting set, and 3 more
+abbrev pub dc+8 : List Float
+dc+8 = whole (3139 ∷ 4729 ∷ 7698 ∷ 10814 ∷ 13880 ∷ 16503 ∷ 19760 ∷ 22268 ∷ 25492 ∷ 27726 ∷ [])
+
+abbrev pub dc+3 : List Float
+dc+3 = whole (3134 ∷ 4724 ∷ 7693 ∷ 10809 ∷ 13875 ∷ 16498 ∷ 19755 ∷ 22263 ∷ 25487 ∷ 27721 ∷ [])
 
 pub data Case : Type 0 where
   -- an index splits to three rows
@@ -72,7 +76,7 @@ marked =
     ∷ splits 4278256131 (1 ∷ 2 ∷ 3 ∷ [])
     ∷ decodes 66051 dc set66051
     ∷ quantises set66051 dc 66051
-    ∷ decodes 0 (raised 8) (raised 3)
+    ∷ decodes 0 dc+8 dc+3
     ∷ weighs 0 4 8 5
     ∷ weighs 1 4 8 6
     ∷ weighs 2 4 8 7

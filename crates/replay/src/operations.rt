@@ -4,13 +4,21 @@ use crate::record::doubles_match;
 use crate::record::load;
 use crate::record::matches;
 use crate::record::wide;
+ghost use mathlib.Core.Path.{_≡_};
+ghost use Prim.Native.Nat.{_≤_};
 
 // How many samples a record of a variable length may give.
-const MOST: usize = 440;
+const MOST: usize = 500;
+
+fn count(w: u32) -> usize
+    ensures { λ r. ⌜ r ≡ w ⌝ }
+{
+    w as usize
+}
 
 // The record's length with so many words beside its samples; 0 where there are too many.
 fn with_samples(words: &[u32; 512], others: usize) -> usize {
-    let n = words[1] as usize;
+    let n = count(words[1]);
     if n > MOST {
         return 0;
     }
@@ -66,11 +74,11 @@ pub fn agrees(words: &[u32; 512]) -> bool {
 }
 
 fn lpc_analysis(words: &[u32; 512]) -> bool {
-    let n = words[1] as usize;
-    if n > MOST {
+    let n = count(words[1]);
+    if n > 470 {
         return false;
     }
-    let mut samples = [0.0f32; 440];
+    let mut samples = [0.0f32; 500];
     load(words, 2, &mut samples);
     let answer = lpc::lpc_analysis(&samples[0..n]);
     let set = answer.set;
@@ -172,13 +180,11 @@ fn weighting_taps(words: &[u32; 512]) -> bool {
     (answer.status == words[12]) & same_zeros & same_poles
 }
 
-fn weight_subframe(words: &[u32; 512]) -> bool {
-    let n = words[1] as usize;
-    if n > 380 {
-        return false;
-    }
+fn weighted(words: &[u32; 512], n: usize) -> weighting::Weighted
+    requires { ⌜ n ≤ 380 ⌝ }
+{
     let at = n + 2;
-    let mut samples = [0.0f32; 440];
+    let mut samples = [0.0f32; 500];
     let mut wz = [0.0f32; 10];
     let mut wp = [0.0f32; 10];
     let mut x_mem = [0.0f32; 10];
@@ -188,23 +194,33 @@ fn weight_subframe(words: &[u32; 512]) -> bool {
     load(words, at + 10, &mut wp);
     load(words, at + 20, &mut x_mem);
     load(words, at + 30, &mut f_mem);
-    let answer = weighting::weight_subframe(&samples[0..n], wz, wp, x_mem, f_mem);
+    weighting::weight_subframe(&samples[0..n], wz, wp, x_mem, f_mem)
+}
+
+fn weight_subframe(words: &[u32; 512]) -> bool {
+    let n = count(words[1]);
+    if n > 380 {
+        return false;
+    }
+    let at = n + 2;
+    let status = words[at + 40];
+    let answer = weighted(words, n);
     let inputs = answer.x_mem;
     let outputs = answer.f_mem;
     let out = answer.out;
     let same_inputs = matches(&inputs, words, at + 41);
     let same_outputs = matches(&outputs, words, at + 51);
     let same_out = matches(&out, words, at + 61);
-    (answer.status == words[at + 40]) & same_inputs & same_outputs & same_out
+    (answer.status == status) & same_inputs & same_outputs & same_out
 }
 
 fn open_loop_pitch(words: &[u32; 512]) -> bool {
-    let n = words[1] as usize;
+    let n = count(words[1]);
     if n > MOST {
         return false;
     }
     let at = n + 2;
-    let mut samples = [0.0f32; 440];
+    let mut samples = [0.0f32; 500];
     load(words, 2, &mut samples);
     let half = wide(words[at], words[at + 1]) as usize;
     let answer = pitch::open_loop_pitch(&samples[0..n], half);
@@ -212,12 +228,12 @@ fn open_loop_pitch(words: &[u32; 512]) -> bool {
 }
 
 fn harmonic_noise_shaping(words: &[u32; 512]) -> bool {
-    let n = words[1] as usize;
+    let n = count(words[1]);
     if n > MOST {
         return false;
     }
     let at = n + 2;
-    let mut samples = [0.0f32; 440];
+    let mut samples = [0.0f32; 500];
     load(words, 2, &mut samples);
     let place = wide(words[at], words[at + 1]) as usize;
     let answer = pitch::harmonic_noise_shaping(&samples[0..n], place, words[at + 2]);

@@ -57,7 +57,7 @@ fn nearest(p: [f32; 10], i: usize) -> f32
     smaller(p[i] - p[i - 1], p[i + 1] - p[i])
 }
 
-fn lsp_weights(p: [f32; 10]) -> [f32; 10]
+pub fn lsp_weights(p: [f32; 10]) -> [f32; 10]
     ensures { λ r. ⌜ r ≡ weights p ⌝ }
 {
     let mut w = [0.0f32; 10];

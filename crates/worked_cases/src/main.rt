@@ -1,5 +1,6 @@
 // The worked cases of document 01 that are run, E11 to E14: one line each, and how many passed.
 mod frequencies;
+mod stages;
 
 use libc::STDOUT_FILENO;
 
@@ -53,11 +54,41 @@ fn frequency_cases(tally: Tally) -> Tally {
     )
 }
 
+fn stage_cases(tally: Tally) -> Tally {
+    let t = case(
+        tally,
+        b"equal frequencies have weights of 1",
+        stages::equal_weights(),
+    );
+    let t = case(t, b"179 samples are refused with 1", stages::short_window());
+    let t = case(
+        t,
+        b"ratio 133 at lag 36 loses to 100 at lag 18",
+        !stages::takes_over(36, 133.0),
+    );
+    let t = case(
+        t,
+        b"ratio 134 at lag 36 wins over 100 at lag 18",
+        stages::takes_over(36, 134.0),
+    );
+    let t = case(
+        t,
+        b"ratio 101 at lag 35 wins over 100 at lag 18",
+        stages::takes_over(35, 101.0),
+    );
+    case(
+        t,
+        b"bare filter, lag 18, factor 0.25: 1, and -0.25 at sample 18",
+        stages::bare_filter(),
+    )
+}
+
 fn main() {
-    let tally = frequency_cases(Tally {
+    let first = frequency_cases(Tally {
         passed: 0,
         failed: 0,
     });
+    let tally = stage_cases(first);
     io::print_decimal(STDOUT_FILENO, tally.passed);
     io::write_all(STDOUT_FILENO, b" passed, ");
     io::print_decimal(STDOUT_FILENO, tally.failed);

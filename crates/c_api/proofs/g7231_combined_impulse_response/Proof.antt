@@ -13,12 +13,6 @@ g7231-combined-impulse-response-spec =
     -- combined-impulse-response-requires
     (λ c κs. search needs)
     -- returns
-    (λ c. (
-      ap (λ (a : ImpulseResponse). a .status) (c .before .before .combined-impulse-response .ensures),
-      stored (λ (a : ImpulseResponse). a .status) (λ (a : ImpulseResponse). a .out) _ _ _ (c .before .before .combined-impulse-response .ensures) (c .before .if1 .taken),
-    ))
+    (λ c. (ap (λ (a : ImpulseResponse). a .status) (c .before .before .combined-impulse-response .ensures), stored (λ (a : ImpulseResponse). a .status) (λ (a : ImpulseResponse). a .out) _ _ _ (c .before .before .combined-impulse-response .ensures) (c .before .if1 .taken)))
     -- returns-2
-    (λ c. (
-      ap (λ (a : ImpulseResponse). a .status) (c .before .combined-impulse-response .ensures),
-      kept (λ (a : ImpulseResponse). a .status) (λ (a : ImpulseResponse). a .out) _ _ _ (c .before .combined-impulse-response .ensures) (c .if1 .left),
-    )))
+    (λ c. (ap (λ (a : ImpulseResponse). a .status) (c .before .combined-impulse-response .ensures), kept (λ (a : ImpulseResponse). a .status) (λ (a : ImpulseResponse). a .out) _ _ _ (c .before .combined-impulse-response .ensures) (c .if1 .left))))

@@ -13,12 +13,6 @@ g7231-decode-lsp-freq-spec =
     -- decode-lsp-freq-requires
     (λ c κs. search needs)
     -- returns
-    (λ c. (
-      ap (λ (a : LspFreq). a .status) (c .before .before .decode-lsp-freq .ensures),
-      stored (λ (a : LspFreq). a .status) (λ (a : LspFreq). a .set) _ _ _ (c .before .before .decode-lsp-freq .ensures) (c .before .if1 .taken),
-    ))
+    (λ c. (ap (λ (a : LspFreq). a .status) (c .before .before .decode-lsp-freq .ensures), stored (λ (a : LspFreq). a .status) (λ (a : LspFreq). a .set) _ _ _ (c .before .before .decode-lsp-freq .ensures) (c .before .if1 .taken)))
     -- returns-2
-    (λ c. (
-      ap (λ (a : LspFreq). a .status) (c .before .decode-lsp-freq .ensures),
-      kept (λ (a : LspFreq). a .status) (λ (a : LspFreq). a .set) _ _ _ (c .before .decode-lsp-freq .ensures) (c .if1 .left),
-    )))
+    (λ c. (ap (λ (a : LspFreq). a .status) (c .before .decode-lsp-freq .ensures), kept (λ (a : LspFreq). a .status) (λ (a : LspFreq). a .set) _ _ _ (c .before .decode-lsp-freq .ensures) (c .if1 .left))))

@@ -13,15 +13,9 @@ g7231-enforce-lsp-stability-spec =
     (tie.spec
     -- enforce-lsp-stability-requires
     (λ c κs. search needs)
+    -- cast-converged
+    (λ c. search needs)
     -- returns
-    (λ c. (
-      ap (λ (a : Stabilised). a .status) (c .before .before .enforce-lsp-stability .ensures),
-      stored (λ (a : Stabilised). a .status) (λ (a : Stabilised). a .cosines) _ _ _ (c .before .before .enforce-lsp-stability .ensures) (c .before .if1 .taken),
-      stored (λ (a : Stabilised). a .status) (λ (a : Stabilised). flag (a .converged)) _ _ _ (c .before .before .enforce-lsp-stability .ensures) (c .before .if1 .taken),
-    ))
+    (λ c. (ap (λ (a : Stabilised). a .status) (c .before .before .before .enforce-lsp-stability .ensures), (stored (λ (a : Stabilised). a .status) (λ (a : Stabilised). a .cosines) _ _ _ (c .before .before .before .enforce-lsp-stability .ensures) (c .before .before .if1 .taken), stored (λ (a : Stabilised). a .status) (λ (a : Stabilised). flag (a .converged)) _ _ _ (c .before .before .before .enforce-lsp-stability .ensures) (c .before .before .if1 .taken))))
     -- returns-2
-    (λ c. (
-      ap (λ (a : Stabilised). a .status) (c .before .enforce-lsp-stability .ensures),
-      kept (λ (a : Stabilised). a .status) (λ (a : Stabilised). a .cosines) _ _ _ (c .before .enforce-lsp-stability .ensures) (c .if1 .left),
-      kept (λ (a : Stabilised). a .status) (λ (a : Stabilised). flag (a .converged)) _ _ _ (c .before .enforce-lsp-stability .ensures) (c .if1 .left),
-    )))
+    (λ c. (ap (λ (a : Stabilised). a .status) (c .before .enforce-lsp-stability .ensures), (kept (λ (a : Stabilised). a .status) (λ (a : Stabilised). a .cosines) _ _ _ (c .before .enforce-lsp-stability .ensures) (c .if1 .left), kept (λ (a : Stabilised). a .status) (λ (a : Stabilised). flag (a .converged)) _ _ _ (c .before .enforce-lsp-stability .ensures) (c .if1 .left)))))

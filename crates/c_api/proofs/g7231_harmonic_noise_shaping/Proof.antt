@@ -13,14 +13,6 @@ g7231-harmonic-noise-shaping-spec =
     -- harmonic-noise-shaping-requires
     (λ c κs. search needs)
     -- returns
-    (λ c. (
-      ap (λ (a : Shaping). a .status) (c .before .before .harmonic-noise-shaping .ensures),
-      stored (λ (a : Shaping). a .status) (λ (a : Shaping). a .params .lag) _ _ _ (c .before .before .harmonic-noise-shaping .ensures) (c .before .if1 .taken),
-      stored (λ (a : Shaping). a .status) (λ (a : Shaping). a .params .beta) _ _ _ (c .before .before .harmonic-noise-shaping .ensures) (c .before .if1 .taken),
-    ))
+    (λ c. (ap (λ (a : Shaping). a .status) (c .before .before .harmonic-noise-shaping .ensures), (stored (λ (a : Shaping). a .status) (λ (a : Shaping). a .params .lag) _ _ _ (c .before .before .harmonic-noise-shaping .ensures) (c .before .if1 .taken), stored (λ (a : Shaping). a .status) (λ (a : Shaping). a .params .beta) _ _ _ (c .before .before .harmonic-noise-shaping .ensures) (c .before .if1 .taken))))
     -- returns-2
-    (λ c. (
-      ap (λ (a : Shaping). a .status) (c .before .harmonic-noise-shaping .ensures),
-      kept (λ (a : Shaping). a .status) (λ (a : Shaping). a .params .lag) _ _ _ (c .before .harmonic-noise-shaping .ensures) (c .if1 .left),
-      kept (λ (a : Shaping). a .status) (λ (a : Shaping). a .params .beta) _ _ _ (c .before .harmonic-noise-shaping .ensures) (c .if1 .left),
-    )))
+    (λ c. (ap (λ (a : Shaping). a .status) (c .before .harmonic-noise-shaping .ensures), (kept (λ (a : Shaping). a .status) (λ (a : Shaping). a .params .lag) _ _ _ (c .before .harmonic-noise-shaping .ensures) (c .if1 .left), kept (λ (a : Shaping). a .status) (λ (a : Shaping). a .params .beta) _ _ _ (c .before .harmonic-noise-shaping .ensures) (c .if1 .left)))))

@@ -13,16 +13,6 @@ g7231-lpc-analysis-spec =
     -- lpc-analysis-requires
     (λ c κs. search needs)
     -- returns
-    (λ c. (
-      ap (λ (a : LpcAnalysis). a .status) (c .before .before .before .before .lpc-analysis .ensures),
-      stored (λ (a : LpcAnalysis). a .status) (λ (a : LpcAnalysis). a .set .a) _ _ _ (c .before .before .before .before .lpc-analysis .ensures) (c .before .before .before .if1 .taken),
-      stored (λ (a : LpcAnalysis). a .status) (λ (a : LpcAnalysis). a .set .r) _ _ _ (c .before .before .before .before .lpc-analysis .ensures) (c .before .before .before .if1 .taken),
-      stored (λ (a : LpcAnalysis). a .status) (λ (a : LpcAnalysis). a .set .k2) _ _ _ (c .before .before .before .before .lpc-analysis .ensures) (c .before .before .before .if1 .taken),
-    ))
+    (λ c. (ap (λ (a : LpcAnalysis). a .status) (c .before .before .before .before .lpc-analysis .ensures), (stored (λ (a : LpcAnalysis). a .status) (λ (a : LpcAnalysis). a .set .a) _ _ _ (c .before .before .before .before .lpc-analysis .ensures) (c .before .before .before .if1 .taken), (stored (λ (a : LpcAnalysis). a .status) (λ (a : LpcAnalysis). a .set .r) _ _ _ (c .before .before .before .before .lpc-analysis .ensures) (c .before .before .before .if1 .taken), stored (λ (a : LpcAnalysis). a .status) (λ (a : LpcAnalysis). a .set .k2) _ _ _ (c .before .before .before .before .lpc-analysis .ensures) (c .before .before .before .if1 .taken)))))
     -- returns-2
-    (λ c. (
-      ap (λ (a : LpcAnalysis). a .status) (c .before .lpc-analysis .ensures),
-      kept (λ (a : LpcAnalysis). a .status) (λ (a : LpcAnalysis). a .set .a) _ _ _ (c .before .lpc-analysis .ensures) (c .if1 .left),
-      kept (λ (a : LpcAnalysis). a .status) (λ (a : LpcAnalysis). a .set .r) _ _ _ (c .before .lpc-analysis .ensures) (c .if1 .left),
-      kept (λ (a : LpcAnalysis). a .status) (λ (a : LpcAnalysis). a .set .k2) _ _ _ (c .before .lpc-analysis .ensures) (c .if1 .left),
-    )))
+    (λ c. (ap (λ (a : LpcAnalysis). a .status) (c .before .lpc-analysis .ensures), (kept (λ (a : LpcAnalysis). a .status) (λ (a : LpcAnalysis). a .set .a) _ _ _ (c .before .lpc-analysis .ensures) (c .if1 .left), (kept (λ (a : LpcAnalysis). a .status) (λ (a : LpcAnalysis). a .set .r) _ _ _ (c .before .lpc-analysis .ensures) (c .if1 .left), kept (λ (a : LpcAnalysis). a .status) (λ (a : LpcAnalysis). a .set .k2) _ _ _ (c .before .lpc-analysis .ensures) (c .if1 .left))))))

@@ -13,12 +13,6 @@ g7231-lpc-to-lsp-spec =
     -- lpc-to-lsp-requires
     (λ c κs. search needs)
     -- returns
-    (λ c. (
-      ap (λ (a : LspSet). a .status) (c .before .before .lpc-to-lsp .ensures),
-      stored (λ (a : LspSet). a .status) (λ (a : LspSet). a .lsp) _ _ _ (c .before .before .lpc-to-lsp .ensures) (c .before .if1 .taken),
-    ))
+    (λ c. (ap (λ (a : LspSet). a .status) (c .before .before .lpc-to-lsp .ensures), stored (λ (a : LspSet). a .status) (λ (a : LspSet). a .lsp) _ _ _ (c .before .before .lpc-to-lsp .ensures) (c .before .if1 .taken)))
     -- returns-2
-    (λ c. (
-      ap (λ (a : LspSet). a .status) (c .before .lpc-to-lsp .ensures),
-      kept (λ (a : LspSet). a .status) (λ (a : LspSet). a .lsp) _ _ _ (c .before .lpc-to-lsp .ensures) (c .if1 .left),
-    )))
+    (λ c. (ap (λ (a : LspSet). a .status) (c .before .lpc-to-lsp .ensures), kept (λ (a : LspSet). a .status) (λ (a : LspSet). a .lsp) _ _ _ (c .before .lpc-to-lsp .ensures) (c .if1 .left))))

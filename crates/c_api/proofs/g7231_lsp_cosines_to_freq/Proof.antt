@@ -13,12 +13,6 @@ g7231-lsp-cosines-to-freq-spec =
     -- lsp-cosines-to-freq-requires
     (λ c κs. search needs)
     -- returns
-    (λ c. (
-      ap (λ (a : Converted). a .status) (c .before .before .lsp-cosines-to-freq .ensures),
-      stored (λ (a : Converted). a .status) (λ (a : Converted). a .lines) _ _ _ (c .before .before .lsp-cosines-to-freq .ensures) (c .before .if1 .taken),
-    ))
+    (λ c. (ap (λ (a : Converted). a .status) (c .before .before .lsp-cosines-to-freq .ensures), stored (λ (a : Converted). a .status) (λ (a : Converted). a .lines) _ _ _ (c .before .before .lsp-cosines-to-freq .ensures) (c .before .if1 .taken)))
     -- returns-2
-    (λ c. (
-      ap (λ (a : Converted). a .status) (c .before .lsp-cosines-to-freq .ensures),
-      kept (λ (a : Converted). a .status) (λ (a : Converted). a .lines) _ _ _ (c .before .lsp-cosines-to-freq .ensures) (c .if1 .left),
-    )))
+    (λ c. (ap (λ (a : Converted). a .status) (c .before .lsp-cosines-to-freq .ensures), kept (λ (a : Converted). a .status) (λ (a : Converted). a .lines) _ _ _ (c .before .lsp-cosines-to-freq .ensures) (c .if1 .left))))

@@ -13,12 +13,6 @@ g7231-lsp-freq-to-cosines-spec =
     -- lsp-freq-to-cosines-requires
     (λ c κs. search needs)
     -- returns
-    (λ c. (
-      ap (λ (a : Converted). a .status) (c .before .before .lsp-freq-to-cosines .ensures),
-      stored (λ (a : Converted). a .status) (λ (a : Converted). a .lines) _ _ _ (c .before .before .lsp-freq-to-cosines .ensures) (c .before .if1 .taken),
-    ))
+    (λ c. (ap (λ (a : Converted). a .status) (c .before .before .lsp-freq-to-cosines .ensures), stored (λ (a : Converted). a .status) (λ (a : Converted). a .lines) _ _ _ (c .before .before .lsp-freq-to-cosines .ensures) (c .before .if1 .taken)))
     -- returns-2
-    (λ c. (
-      ap (λ (a : Converted). a .status) (c .before .lsp-freq-to-cosines .ensures),
-      kept (λ (a : Converted). a .status) (λ (a : Converted). a .lines) _ _ _ (c .before .lsp-freq-to-cosines .ensures) (c .if1 .left),
-    )))
+    (λ c. (ap (λ (a : Converted). a .status) (c .before .lsp-freq-to-cosines .ensures), kept (λ (a : Converted). a .status) (λ (a : Converted). a .lines) _ _ _ (c .before .lsp-freq-to-cosines .ensures) (c .if1 .left))))

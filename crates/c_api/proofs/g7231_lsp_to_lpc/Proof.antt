@@ -13,12 +13,6 @@ g7231-lsp-to-lpc-spec =
     -- lsp-to-lpc-requires
     (λ c κs. search needs)
     -- returns
-    (λ c. (
-      ap (λ (a : LpcCoefficients). a .status) (c .before .before .lsp-to-lpc .ensures),
-      stored (λ (a : LpcCoefficients). a .status) (λ (a : LpcCoefficients). a .a) _ _ _ (c .before .before .lsp-to-lpc .ensures) (c .before .if1 .taken),
-    ))
+    (λ c. (ap (λ (a : LpcCoefficients). a .status) (c .before .before .lsp-to-lpc .ensures), stored (λ (a : LpcCoefficients). a .status) (λ (a : LpcCoefficients). a .a) _ _ _ (c .before .before .lsp-to-lpc .ensures) (c .before .if1 .taken)))
     -- returns-2
-    (λ c. (
-      ap (λ (a : LpcCoefficients). a .status) (c .before .lsp-to-lpc .ensures),
-      kept (λ (a : LpcCoefficients). a .status) (λ (a : LpcCoefficients). a .a) _ _ _ (c .before .lsp-to-lpc .ensures) (c .if1 .left),
-    )))
+    (λ c. (ap (λ (a : LpcCoefficients). a .status) (c .before .lsp-to-lpc .ensures), kept (λ (a : LpcCoefficients). a .status) (λ (a : LpcCoefficients). a .a) _ _ _ (c .before .lsp-to-lpc .ensures) (c .if1 .left))))

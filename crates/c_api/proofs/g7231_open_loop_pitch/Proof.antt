@@ -13,12 +13,6 @@ g7231-open-loop-pitch-spec =
     -- open-loop-pitch-requires
     (λ c κs. search needs)
     -- returns
-    (λ c. (
-      ap (λ (a : OpenLoop). a .status) (c .before .open-loop-pitch .ensures),
-      stored (λ (a : OpenLoop). a .status) (λ (a : OpenLoop). a .lag) _ _ _ (c .before .open-loop-pitch .ensures) (c .if1 .taken),
-    ))
+    (λ c. (ap (λ (a : OpenLoop). a .status) (c .before .open-loop-pitch .ensures), stored (λ (a : OpenLoop). a .status) (λ (a : OpenLoop). a .lag) _ _ _ (c .before .open-loop-pitch .ensures) (c .if1 .taken)))
     -- returns-2
-    (λ c. (
-      ap (λ (a : OpenLoop). a .status) (c .before .open-loop-pitch .ensures),
-      kept (λ (a : OpenLoop). a .status) (λ (a : OpenLoop). a .lag) _ _ _ (c .before .open-loop-pitch .ensures) (c .if1 .left),
-    )))
+    (λ c. (ap (λ (a : OpenLoop). a .status) (c .before .open-loop-pitch .ensures), kept (λ (a : OpenLoop). a .status) (λ (a : OpenLoop). a .lag) _ _ _ (c .before .open-loop-pitch .ensures) (c .if1 .left))))

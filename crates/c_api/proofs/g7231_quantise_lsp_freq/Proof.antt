@@ -13,14 +13,6 @@ g7231-quantise-lsp-freq-spec =
     -- quantise-lsp-freq-requires
     (λ c κs. search needs)
     -- returns
-    (λ c. (
-      ap (λ (a : Quantised). a .status) (c .before .before .quantise-lsp-freq .ensures),
-      stored (λ (a : Quantised). a .status) (λ (a : Quantised). a .index) _ _ _ (c .before .before .quantise-lsp-freq .ensures) (c .before .if1 .taken),
-      stored (λ (a : Quantised). a .status) (λ (a : Quantised). a .set) _ _ _ (c .before .before .quantise-lsp-freq .ensures) (c .before .if1 .taken),
-    ))
+    (λ c. (ap (λ (a : Quantised). a .status) (c .before .before .quantise-lsp-freq .ensures), (stored (λ (a : Quantised). a .status) (λ (a : Quantised). a .index) _ _ _ (c .before .before .quantise-lsp-freq .ensures) (c .before .if1 .taken), stored (λ (a : Quantised). a .status) (λ (a : Quantised). a .set) _ _ _ (c .before .before .quantise-lsp-freq .ensures) (c .before .if1 .taken))))
     -- returns-2
-    (λ c. (
-      ap (λ (a : Quantised). a .status) (c .before .quantise-lsp-freq .ensures),
-      kept (λ (a : Quantised). a .status) (λ (a : Quantised). a .index) _ _ _ (c .before .quantise-lsp-freq .ensures) (c .if1 .left),
-      kept (λ (a : Quantised). a .status) (λ (a : Quantised). a .set) _ _ _ (c .before .quantise-lsp-freq .ensures) (c .if1 .left),
-    )))
+    (λ c. (ap (λ (a : Quantised). a .status) (c .before .quantise-lsp-freq .ensures), (kept (λ (a : Quantised). a .status) (λ (a : Quantised). a .index) _ _ _ (c .before .quantise-lsp-freq .ensures) (c .if1 .left), kept (λ (a : Quantised). a .status) (λ (a : Quantised). a .set) _ _ _ (c .before .quantise-lsp-freq .ensures) (c .if1 .left)))))

@@ -13,20 +13,6 @@ g7231-run-combined-spec =
     -- run-combined-requires
     (λ c κs. search needs)
     -- returns
-    (λ c. (
-      ap (λ (a : Combined). a .status) (c .before .before .before .before .before .before .before .run-combined .ensures),
-      stored (λ (a : Combined). a .status) (λ (a : Combined). a .mem .syn) _ _ _ (c .before .before .before .before .before .before .before .run-combined .ensures) (c .before .before .before .before .before .before .if1 .taken),
-      stored (λ (a : Combined). a .status) (λ (a : Combined). a .mem .wz) _ _ _ (c .before .before .before .before .before .before .before .run-combined .ensures) (c .before .before .before .before .before .before .if1 .taken),
-      stored (λ (a : Combined). a .status) (λ (a : Combined). a .mem .wp) _ _ _ (c .before .before .before .before .before .before .before .run-combined .ensures) (c .before .before .before .before .before .before .if1 .taken),
-      stored (λ (a : Combined). a .status) (λ (a : Combined). a .mem .«p_hist») _ _ _ (c .before .before .before .before .before .before .before .run-combined .ensures) (c .before .before .before .before .before .before .if1 .taken),
-      stored (λ (a : Combined). a .status) (λ (a : Combined). a .out) _ _ _ (c .before .before .before .before .before .before .before .run-combined .ensures) (c .before .before .before .before .before .before .if1 .taken),
-    ))
+    (λ c. (ap (λ (a : Combined). a .status) (c .before .before .before .before .before .before .before .run-combined .ensures), (stored (λ (a : Combined). a .status) (λ (a : Combined). a .mem .syn) _ _ _ (c .before .before .before .before .before .before .before .run-combined .ensures) (c .before .before .before .before .before .before .if1 .taken), (stored (λ (a : Combined). a .status) (λ (a : Combined). a .mem .wz) _ _ _ (c .before .before .before .before .before .before .before .run-combined .ensures) (c .before .before .before .before .before .before .if1 .taken), (stored (λ (a : Combined). a .status) (λ (a : Combined). a .mem .wp) _ _ _ (c .before .before .before .before .before .before .before .run-combined .ensures) (c .before .before .before .before .before .before .if1 .taken), (stored (λ (a : Combined). a .status) (λ (a : Combined). a .mem .«p_hist») _ _ _ (c .before .before .before .before .before .before .before .run-combined .ensures) (c .before .before .before .before .before .before .if1 .taken), stored (λ (a : Combined). a .status) (λ (a : Combined). a .out) _ _ _ (c .before .before .before .before .before .before .before .run-combined .ensures) (c .before .before .before .before .before .before .if1 .taken)))))))
     -- returns-2
-    (λ c. (
-      ap (λ (a : Combined). a .status) (c .before .run-combined .ensures),
-      kept (λ (a : Combined). a .status) (λ (a : Combined). a .mem .syn) _ _ _ (c .before .run-combined .ensures) (c .if1 .left),
-      kept (λ (a : Combined). a .status) (λ (a : Combined). a .mem .wz) _ _ _ (c .before .run-combined .ensures) (c .if1 .left),
-      kept (λ (a : Combined). a .status) (λ (a : Combined). a .mem .wp) _ _ _ (c .before .run-combined .ensures) (c .if1 .left),
-      kept (λ (a : Combined). a .status) (λ (a : Combined). a .mem .«p_hist») _ _ _ (c .before .run-combined .ensures) (c .if1 .left),
-      kept (λ (a : Combined). a .status) (λ (a : Combined). a .out) _ _ _ (c .before .run-combined .ensures) (c .if1 .left),
-    )))
+    (λ c. (ap (λ (a : Combined). a .status) (c .before .run-combined .ensures), (kept (λ (a : Combined). a .status) (λ (a : Combined). a .mem .syn) _ _ _ (c .before .run-combined .ensures) (c .if1 .left), (kept (λ (a : Combined). a .status) (λ (a : Combined). a .mem .wz) _ _ _ (c .before .run-combined .ensures) (c .if1 .left), (kept (λ (a : Combined). a .status) (λ (a : Combined). a .mem .wp) _ _ _ (c .before .run-combined .ensures) (c .if1 .left), (kept (λ (a : Combined). a .status) (λ (a : Combined). a .mem .«p_hist») _ _ _ (c .before .run-combined .ensures) (c .if1 .left), kept (λ (a : Combined). a .status) (λ (a : Combined). a .out) _ _ _ (c .before .run-combined .ensures) (c .if1 .left))))))))

@@ -13,16 +13,6 @@ g7231-weight-subframe-spec =
     -- weight-subframe-requires
     (λ c κs. search needs)
     -- returns
-    (λ c. (
-      ap (λ (a : Weighted). a .status) (c .before .before .before .before .weight-subframe .ensures),
-      stored (λ (a : Weighted). a .status) (λ (a : Weighted). a .«x_mem») _ _ _ (c .before .before .before .before .weight-subframe .ensures) (c .before .before .before .if1 .taken),
-      stored (λ (a : Weighted). a .status) (λ (a : Weighted). a .«f_mem») _ _ _ (c .before .before .before .before .weight-subframe .ensures) (c .before .before .before .if1 .taken),
-      stored (λ (a : Weighted). a .status) (λ (a : Weighted). a .out) _ _ _ (c .before .before .before .before .weight-subframe .ensures) (c .before .before .before .if1 .taken),
-    ))
+    (λ c. (ap (λ (a : Weighted). a .status) (c .before .before .before .before .weight-subframe .ensures), (stored (λ (a : Weighted). a .status) (λ (a : Weighted). a .«x_mem») _ _ _ (c .before .before .before .before .weight-subframe .ensures) (c .before .before .before .if1 .taken), (stored (λ (a : Weighted). a .status) (λ (a : Weighted). a .«f_mem») _ _ _ (c .before .before .before .before .weight-subframe .ensures) (c .before .before .before .if1 .taken), stored (λ (a : Weighted). a .status) (λ (a : Weighted). a .out) _ _ _ (c .before .before .before .before .weight-subframe .ensures) (c .before .before .before .if1 .taken)))))
     -- returns-2
-    (λ c. (
-      ap (λ (a : Weighted). a .status) (c .before .weight-subframe .ensures),
-      kept (λ (a : Weighted). a .status) (λ (a : Weighted). a .«x_mem») _ _ _ (c .before .weight-subframe .ensures) (c .if1 .left),
-      kept (λ (a : Weighted). a .status) (λ (a : Weighted). a .«f_mem») _ _ _ (c .before .weight-subframe .ensures) (c .if1 .left),
-      kept (λ (a : Weighted). a .status) (λ (a : Weighted). a .out) _ _ _ (c .before .weight-subframe .ensures) (c .if1 .left),
-    )))
+    (λ c. (ap (λ (a : Weighted). a .status) (c .before .weight-subframe .ensures), (kept (λ (a : Weighted). a .status) (λ (a : Weighted). a .«x_mem») _ _ _ (c .before .weight-subframe .ensures) (c .if1 .left), (kept (λ (a : Weighted). a .status) (λ (a : Weighted). a .«f_mem») _ _ _ (c .before .weight-subframe .ensures) (c .if1 .left), kept (λ (a : Weighted). a .status) (λ (a : Weighted). a .out) _ _ _ (c .before .weight-subframe .ensures) (c .if1 .left))))))

@@ -13,14 +13,6 @@ g7231-weighting-taps-spec =
     -- weighting-taps-requires
     (λ c κs. search needs)
     -- returns
-    (λ c. (
-      ap (λ (a : WeightingTaps). a .status) (c .before .before .before .weighting-taps .ensures),
-      stored (λ (a : WeightingTaps). a .status) (λ (a : WeightingTaps). a .wz) _ _ _ (c .before .before .before .weighting-taps .ensures) (c .before .before .if1 .taken),
-      stored (λ (a : WeightingTaps). a .status) (λ (a : WeightingTaps). a .wp) _ _ _ (c .before .before .before .weighting-taps .ensures) (c .before .before .if1 .taken),
-    ))
+    (λ c. (ap (λ (a : WeightingTaps). a .status) (c .before .before .before .weighting-taps .ensures), (stored (λ (a : WeightingTaps). a .status) (λ (a : WeightingTaps). a .wz) _ _ _ (c .before .before .before .weighting-taps .ensures) (c .before .before .if1 .taken), stored (λ (a : WeightingTaps). a .status) (λ (a : WeightingTaps). a .wp) _ _ _ (c .before .before .before .weighting-taps .ensures) (c .before .before .if1 .taken))))
     -- returns-2
-    (λ c. (
-      ap (λ (a : WeightingTaps). a .status) (c .before .weighting-taps .ensures),
-      kept (λ (a : WeightingTaps). a .status) (λ (a : WeightingTaps). a .wz) _ _ _ (c .before .weighting-taps .ensures) (c .if1 .left),
-      kept (λ (a : WeightingTaps). a .status) (λ (a : WeightingTaps). a .wp) _ _ _ (c .before .weighting-taps .ensures) (c .if1 .left),
-    )))
+    (λ c. (ap (λ (a : WeightingTaps). a .status) (c .before .weighting-taps .ensures), (kept (λ (a : WeightingTaps). a .status) (λ (a : WeightingTaps). a .wz) _ _ _ (c .before .weighting-taps .ensures) (c .if1 .left), kept (λ (a : WeightingTaps). a .status) (λ (a : WeightingTaps). a .wp) _ _ _ (c .before .weighting-taps .ensures) (c .if1 .left)))))

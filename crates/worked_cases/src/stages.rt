@@ -1,0 +1,42 @@
+// The stages' own cases: weights, a short window, lags that compete, and the bare filter.
+use lags::Best;
+
+fn is_one(x: f32) -> bool {
+    float::same_bits(x, 0x3f80_0000)
+}
+
+// Equal frequencies lie no distance apart, which counts as 1.
+pub fn equal_weights() -> bool {
+    let w = spec_lsp::quantise::lsp_weights([5000.0f32; 10]);
+    let first = is_one(w[0]) & is_one(w[1]) & is_one(w[2]) & is_one(w[3]) & is_one(w[4]);
+    first & is_one(w[5]) & is_one(w[6]) & is_one(w[7]) & is_one(w[8]) & is_one(w[9])
+}
+
+pub fn short_window() -> bool {
+    let samples = [0.0f32; 179];
+    let answer = lpc::lpc_analysis(&samples);
+    answer.status == 1
+}
+
+// Whether a lag with that ratio takes the place of lag 18 with the ratio 100.
+pub fn takes_over(lag: u32, ratio: f64) -> bool {
+    let winner = Best {
+        found: true,
+        ratio: 100.0,
+        lag: 18,
+    };
+    let best = lags::challenge(winner, lag, ratio);
+    best.lag == lag
+}
+
+// A filter with no prediction and no weighting, lag 18 and factor 0.25: 1, and −0.25 at sample 18.
+pub fn bare_filter() -> bool {
+    let mut aq = [0.0f32; 11];
+    aq[0] = 1.0;
+    let none = [0.0f32; 10];
+    let answer = combined::combined_impulse_response(aq, none, none, 18, 0.25);
+    let out = answer.out;
+    (answer.status == 0)
+        & float::same_bits(out[0], 0x3f80_0000)
+        & float::same_bits(out[18], 0xbe80_0000)
+}
