@@ -13,7 +13,7 @@ abbrev Inv-loop : tie.InvT-loop
 Inv-loop p p-hist₀ i₀ p-hist i = Filled reach (λ j. at p (j + 60)) i p-hist
 
 abbrev μ-loop : tie.MeasureT-loop
-μ-loop p p-hist₀ i₀ p-hist i = 145 - i
+μ-loop p p-hist₀ i₀ p-hist i = reach - i
 
 pub last-inputs-spec : {M : Type 1} → statement M
 last-inputs-spec =

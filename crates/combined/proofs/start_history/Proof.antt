@@ -17,7 +17,7 @@ abbrev Inv-loop : tie.InvT-loop
 Inv-loop p-hist p₀ i₀ p i = (i ≤ reach) × Filled (reach + 60) (at p-hist) i p
 
 abbrev μ-loop : tie.MeasureT-loop
-μ-loop p-hist p₀ i₀ p i = 145 - i
+μ-loop p-hist p₀ i₀ p i = reach - i
 
 copied : (p-hist p : List Float) (i : ℕ) → length p-hist ≡ reach → i ≡ reach → Filled (reach + 60) (at p-hist) i p → take reach p ≡ p-hist
 copied p-hist p i h e r = rw e at (r .done) ∙ table-entries reach p-hist nan h
