@@ -14,7 +14,7 @@ use Rattle.float.specs.Single.{_⊖_, _⊗_}
 use Rattle.float.specs.Table.{table}
 use Rattle.float.specs.Vector.{at}
 use Rattle.float.proofs.Table.{same-table}
-use Rattle.weighting.proofs.Running.{over-more}
+use Rattle.float.proofs.Loop.{over-more}
 use Rattle.combined.specs.declared.CombinedMem.{CombinedMem}
 use Rattle.combined.specs.Memory.{reach, last, shaped}
 use Rattle.combined.specs.Cascade.{Settings, Cascade, back, sample, start, cascaded}

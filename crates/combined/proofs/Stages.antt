@@ -9,10 +9,10 @@ use lib.ListN.{length, take, drop, set, length-set, length-drop}
 use lib.Seq.{drop-drop, drop-set-lt, drop-set-add, take-suc-set, getD-drop, getD-set-same}
 use lib.Ieee.{Float, nan}
 use Rattle.float.specs.Vector.{at}
+use Rattle.float.proofs.Loop.{over-more}
 use Rattle.weighting.specs.Filter.{weighted}
 use Rattle.weighting.specs.Line.{behind}
 use Rattle.weighting.proofs.Line.{behind-next, behind-set, behind-more}
-use Rattle.weighting.proofs.Running.{over-more}
 use Rattle.combined.specs.declared.CombinedMem.{CombinedMem}
 use Rattle.combined.specs.Cascade.{Settings, Cascade, synthesised, sample, start, cascaded}
 

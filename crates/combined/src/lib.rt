@@ -173,10 +173,20 @@ fn run(
 fn refused(status: u32, mem: CombinedMem) -> Combined
     ensures { λ r. ⌜ r ≡ refusal mem status ⌝ }
 {
+    let syn = mem.syn;
+    let wz = mem.wz;
+    let wp = mem.wp;
+    let p_hist = mem.p_hist;
+    let kept = CombinedMem {
+        syn,
+        wz,
+        wp,
+        p_hist,
+    };
     Combined {
         status,
         out: [0.0f32; 60],
-        mem,
+        mem: kept,
     }
 }
 

@@ -15,10 +15,9 @@ use lib.Ieee.Fits.{down-pos, fits-widens}
 use borrow.Author.Tests.{ltb-true}
 use Rattle.float.specs.Finite.{power, exceeds}
 use Rattle.float.proofs.Bound.{magnitude, no-infinity}
-use Rattle.float.proofs.Order.{le-values}
+use Rattle.float.proofs.Order.{le-values, values-le}
 use Rattle.cosine.specs.Step.{wholePart}
 use Rattle.cosine.specs.Search.{wholeBelow}
-use Rattle.cosine.proofs.Order.{values-le}
 use Rattle.cosine.proofs.Whole.{scale, below-zero, neg-value, up46, zero-double, whole-le}
 
 -- ---- in whole numbers

@@ -7,6 +7,5 @@ pub mod Held
 pub mod Whole
 mod Halving
 mod Segment
-pub mod Order
 mod Below
 mod Reach

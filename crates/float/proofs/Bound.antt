@@ -11,17 +11,18 @@ use lib.Ieee.Scale.{finite}
 use borrow.Author.Tests.{ltb-false, le-ltb}
 use Rattle.float.specs.Finite.{power, exceeds}
 
-left : (a b : Bool) → a || b ≡ false → a ≡ false
-left true b e = e
-left false b e = refl
+-- where neither of two holds
+pub neither-l : (a b : Bool) → a || b ≡ false → a ≡ false
+neither-l true b e = e
+neither-l false b e = refl
 
-right : (a b : Bool) → a || b ≡ false → b ≡ false
-right true b e = absurd (mathlib.Core.Bool.true≢false e)
-right false b e = e
+pub neither-r : (a b : Bool) → a || b ≡ false → b ≡ false
+neither-r true b e = absurd (mathlib.Core.Bool.true≢false e)
+neither-r false b e = e
 
 pub magnitude : (k : ℕ) (s : Bool) (m : ℕ) (e : ℤ) → exceeds (power k) (fin s m e) ≡ false → m * up e ≤ 2 ^ k * down e
 unfolding lt neg
-magnitude k false m e h = subst (λ (z : ℕ). z ≤ 2 ^ k * down e) (mul-one (m * up e)) (subst (λ (z : ℕ). m * up e * 1 ≤ z * down e) (one-mul (2 ^ k)) (ltb-false (1 * 2 ^ k * down e) (m * up e * 1) (left (ltb (1 * 2 ^ k * down e) (m * up e * 1)) false h)))
+magnitude k false m e h = subst (λ (z : ℕ). z ≤ 2 ^ k * down e) (mul-one (m * up e)) (subst (λ (z : ℕ). m * up e * 1 ≤ z * down e) (one-mul (2 ^ k)) (ltb-false (1 * 2 ^ k * down e) (m * up e * 1) (neither-l (ltb (1 * 2 ^ k * down e) (m * up e * 1)) false h)))
 magnitude k true m e h = subst (λ (z : ℕ). z ≤ 2 ^ k * down e) (mul-one (m * up e)) (subst (λ (z : ℕ). m * up e * 1 ≤ z * down e) (one-mul (2 ^ k)) (ltb-false (1 * 2 ^ k * down e) (m * up e * 1) h))
 
 pub no-infinity : (k : ℕ) (s : Bool) → exceeds (power k) (inf s) ≡ false → ⊥

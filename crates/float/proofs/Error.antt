@@ -16,21 +16,9 @@ use lib.Ieee.Fits.{round-is, round-fits, nearest-le, kept-lt}
 use lib.Ieee.Nearest.{closest}
 use lib.Ieee.Scale.{overflow}
 use lib.Ieee.Order.{drop, kept}
+use Rattle.float.proofs.Compare.{Cmp, cmp}
 
 -- ---- the nearest whole number is half of one away at most
-abbrev Cmp : Ordering → ℕ → ℕ → Type 0
-Cmp Ordering·lt a b = a < b
-Cmp Ordering·eq a b = a ≡ b
-Cmp Ordering·gt a b = b < a
-
-cmp : (a b : ℕ) → Cmp (compare a b) a b
-cmp a b = go (compare a b) (leb→le a b) (nleb→lt a b) (eqb→eq a b) (λ (e : a ≡ b). subst (λ (x : ℕ). T (eqb a x)) e (eqb-refl a))
-  where
-    go : (o : Ordering) → (T (isLe o) → a ≤ b) → (T (not (isLe o)) → b < a) → (T (isEq o) → a ≡ b) → (a ≡ b → T (isEq o)) → Cmp o a b
-    go Ordering·lt h k e n = lt-of-le-ne (h tt) n
-    go Ordering·eq h k e n = e tt
-    go Ordering·gt h k e n = k tt
-
 abbrev Half : ℕ → ℕ → ℕ → Type 0
 Half x n u = (2 * x ≤ 2 * n + u) × (2 * n ≤ 2 * x + u)
 

@@ -22,6 +22,7 @@ pub mod HalfEven
 pub mod Units
 pub mod Whole
 pub mod Patterns
+mod Compare
 mod Narrowing
 mod Signs
 pub mod Blocks

@@ -1,7 +1,7 @@
 -- Laws of `over` and `back`, and the invariants of loops that run them: `Went a b step s₀ i s` says that s is the state after the turns a, .., i - 1,
 -- and `Fell a b step s₀ i s` that it is the state after the turns b - 1, .., i. A state that no later turn changes is the last one. Assumes nothing.
 use mathlib.Core.Path.{_≡_, refl, sym, ap, _∙_}
-use Prim.Native.Nat.{ℕ, zero, suc, _+_, _-_, _≤_, _<_}
+use Prim.Native.Nat.{ℕ, zero, suc, _+_, _-_, _≤_, _<_, zero-le}
 use native.Mathlib.Nat.{le-refl}
 use native.Mathlib.Omega.{arith}
 use Rattle.float.specs.Loop.{times, over, back}
@@ -36,6 +36,11 @@ went-more a b step s₀ i s t h e r =
     let c : i + 1 - a ≡ suc (i - a) = omega (arith, r .from) in
     let d : a + (i - a) ≡ i = omega (arith, r .from) in
     record { from = omega (arith, r .from); bound = omega arith; state = e ∙ rw (c, d, r .state) }
+
+-- one more turn of a loop from 0
+pub over-more : {S : Type 0} (step : ℕ → S → S) (s : S) (n : ℕ) → over 0 (n + 1) step s ≡ step n (over 0 n step s)
+over-more step s n =
+    sym (went-more 0 (n + 1) step s n (over 0 n step s) (step n (over 0 n step s)) (omega arith) refl (record { from = zero-le; bound = omega arith; state = refl }) .state)
 
 pub went-all : {S : Type 0} (a b : ℕ) (step : ℕ → S → S) (s₀ : S) (i : ℕ) (s : S) → b ≤ i → Went a b step s₀ i s → s ≡ over a b step s₀
 went-all a b step s₀ i s h r =

@@ -21,11 +21,11 @@ Under true a false b = Unit
 Under true a true b = b ≤ a
 
 -- ---- the library's test says it
-or-l : (a b : Bool) → T a → T (a || b)
+pub or-l : (a b : Bool) → T a → T (a || b)
 or-l true b t = tt
 or-l false b t = absurd t
 
-or-r : (a b : Bool) → T b → T (a || b)
+pub or-r : (a b : Bool) → T b → T (a || b)
 or-r true b t = tt
 or-r false b t = t
 
@@ -186,3 +186,24 @@ le-of-not-lt (inf s) y p q h = absurd p
 le-of-not-lt (fin s m e) nan p q h = absurd q
 le-of-not-lt (fin s m e) (inf t) p q h = absurd q
 le-of-not-lt (fin s m e) (fin t n d) p q h = under-test t (n * up d * down e) s (m * up e * down d) (under-of-not s (m * up e * down d) t (n * up d * down e) h)
+
+-- ---- and the way back: the order of floats says the order of their values
+pub values-le : (x y : Float) (s : Bool) (a c : ℕ) (t : Bool) (b d : ℕ) → 0 < c → 0 < d → HasValue x s a c → HasValue y t b d → T (le x y) → Under s (a * d) t (b * c)
+unfolding le lt eq
+values-le nan y s a c t b d C D p q h = absurd p
+values-le (inf z) y s a c t b d C D p q h = absurd p
+values-le (fin z m e) nan s a c t b d C D p q h = absurd q
+values-le (fin z m e) (inf w) s a c t b d C D p q h = absurd q
+values-le (fin z m e) (fin w n g) s a c t b d C D p q h =
+    under-cancel s (a * d) t (b * c) (down e * down g) (mul-pos (down-pos e) (down-pos g))
+    (subst (λ (v : ℕ). Under s v t (b * c * (down e * down g))) (left (m * up e) (down e) (down g) (p .1))
+    (subst (λ (v : ℕ). Under s (m * up e * down g * (c * d)) t v) (right (n * up g) (down e) (down g) (q .1))
+    (under-scale s (m * up e * down g) t (n * up g * down e) (c * d)
+    (subst (λ (v : Bool). Under v (m * up e * down g) t (n * up g * down e)) (p .0)
+    (subst (λ (v : Bool). Under z (m * up e * down g) v (n * up g * down e)) (q .0) (test-under z (m * up e * down g) w (n * up g * down e) h))))))
+  where
+    left : (x de dg : ℕ) → x * c ≡ a * de → x * dg * (c * d) ≡ a * d * (de * dg)
+    left x de dg e = simp (mul-assoc, mul-comm, mul-left-comm) (simp (mul-assoc, mul-comm, mul-left-comm) at (ap (λ (z : ℕ). z * (dg * d)) e))
+
+    right : (y de dg : ℕ) → y * d ≡ b * dg → y * de * (c * d) ≡ b * c * (de * dg)
+    right y de dg e = simp (mul-assoc, mul-comm, mul-left-comm) (simp (mul-assoc, mul-comm, mul-left-comm) at (ap (λ (z : ℕ). z * (de * c)) e))

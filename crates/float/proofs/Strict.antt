@@ -7,20 +7,12 @@ use native.Mathlib.Omega.{arith}
 use lib.Dec.{T, ltb, eqb, ltb→lt, eqb→eq}
 use lib.Ieee.{Float, nan, inf, fin, up, down, below, level, lt, eq, le}
 use lib.Ieee.Fits.{and-i, and-l, and-r, eq→eqb}
-use Rattle.float.proofs.Order.{Under, test-under, le-trans-any}
+use Rattle.float.proofs.Order.{or-l, or-r, Under, test-under, le-trans-any}
 
 -- a test that fails where it holds
 pub no : (b : Bool) → (T b → ⊥) → b ≡ false
 no true h = absurd (h tt)
 no false h = refl
-
-or-l : (a b : Bool) → T a → T (a || b)
-or-l true b t = tt
-or-l false b t = absurd t
-
-or-r : (a b : Bool) → T b → T (a || b)
-or-r true b t = tt
-or-r false b t = t
 
 -- ---- below is no more than
 pub lt-le : (x y : Float) → T (lt x y) → T (le x y)

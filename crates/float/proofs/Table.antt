@@ -7,8 +7,8 @@ use Prim.Native.Nat.{ℕ, zero, suc, _+_, _≤_, _<_, zero-le}
 use native.Mathlib.Nat.{add-comm, eq-or-lt-of-le, le-of-suc-le-suc, not-suc-le-zero}
 use native.Mathlib.Numerals.{add-one}
 use native.Mathlib.Omega.{arith}
-use lib.ListN.{length, getD, take, set, length-append, length-set, length-map, List·getD-append, List·getD-map}
-use lib.Seq.{take-suc-set, take-all, getD-at, ext-getD}
+use lib.ListN.{length, getD, take, drop, set, length-append, length-set, length-drop, length-map, List·getD-append, List·getD-map}
+use lib.Seq.{take-suc-set, take-all, take-at, getD-at, getD-drop, ext-getD}
 use Rattle.float.specs.Table.{table}
 
 pub length-table : {A : Type 0} (n : ℕ) (f : ℕ → A) → length (table n f) ≡ n
@@ -31,6 +31,27 @@ pub same-table : {A : Type 0} (n : ℕ) (f g : ℕ → A) → ((i : ℕ) → i <
 unfolding table
 same-table zero f g h = refl
 same-table (suc n) f g h = rw (same-table n f g (λ i l. h i (omega arith)), h n (omega arith))
+
+pub table-first : {A : Type 0} (n : ℕ) (f : ℕ → A) → table (suc n) f ≡ f 0 ∷ table n (λ i. f (suc i))
+unfolding table
+table-first zero f = refl
+table-first (suc n) f = ap (λ l. l ++ (f (suc n) ∷ [])) (table-first n f)
+
+pub take-table : {A : Type 0} (n : ℕ) (f : ℕ → A) → take n (table (suc n) f) ≡ table n f
+unfolding table
+take-table n f = take-at (table n f) (f n ∷ []) n (length-table n f)
+
+-- a list is the table of its entries
+pub table-entries : {A : Type 0} (n : ℕ) (xs : List A) (d : A) → length xs ≡ n → table n (λ i. getD xs i d) ≡ xs
+table-entries n xs d h =
+    ext-getD d (table n (λ i. getD xs i d)) xs (length-table n (λ i. getD xs i d) ∙ sym h)
+    (λ i l. at-table n (λ j. getD xs j d) i d (omega (arith, length-table n (λ j. getD xs j d))))
+
+-- what is left of a list is the table of what stands there
+pub table-drop : {A : Type 0} (a n : ℕ) (xs : List A) (d : A) → length xs ≡ a + n → table n (λ i. getD xs (i + a) d) ≡ drop a xs
+table-drop a n xs d h =
+    same-table n (λ i. getD xs (i + a) d) (λ i. getD (drop a xs) i d) (λ i l. ap (λ (j : ℕ). getD xs j d) (add-comm i a) ∙ sym (getD-drop a xs i d))
+    ∙ table-entries n (drop a xs) d (simp length-drop (omega arith))
 
 -- ---- filling an array
 pub record Filled {A : Type 0} (n : ℕ) (f : ℕ → A) (i : ℕ) (out : List A) : Type 0 where

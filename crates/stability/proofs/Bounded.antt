@@ -17,6 +17,7 @@ use Rattle.float.specs.Single.{_⊖_, _⊗_, single}
 use Rattle.float.specs.Vector.{at}
 use Rattle.float.proofs.All.{all-at}
 use Rattle.float.proofs.Any.{any-of}
+use Rattle.float.proofs.Bound.{neither-r}
 use Rattle.float.proofs.Dyadic.{dyadic-exact}
 use Rattle.float.proofs.Order.{le-of-not-lt}
 use Rattle.float.proofs.Range.{AtMost, nought, at-most-wider, at-most-value, at-most-cond, at-most-exceeds, at-most-between, at-most-sub, at-most-mul, at-most-div, round-at-most}
@@ -54,15 +55,11 @@ left : (a b : Bool) → a || b ≡ false → a ≡ false
 left true b e = e
 left false b e = refl
 
-right : (a b : Bool) → a || b ≡ false → b ≡ false
-right true b e = absurd (mathlib.Core.Bool.true≢false e)
-right false b e = e
-
 hz-bound : (hz : Float) → T (finite hz) → outside hz ≡ false → AtMost 400 1 hz
 unfolding outside
 hz-bound hz f h =
     let a : T (le nought hz) = subst (λ (z : Float). T (le z hz)) zero-is (le-of-not-lt hz (single 0 1) f (subst (λ (z : Float). T (finite z)) (sym zero-is) tt) (left (lt hz (single 0 1)) (lt (single 400 1) hz) h)) in
-    let b : T (le hz (single 400 1)) = le-of-not-lt (single 400 1) hz (value-finite (single 400 1) false 400 1 (whole 400 (lit< tt))) f (right (lt hz (single 0 1)) (lt (single 400 1) hz) h) in
+    let b : T (le hz (single 400 1)) = le-of-not-lt (single 400 1) hz (value-finite (single 400 1) false 400 1 (whole 400 (lit< tt))) f (neither-r (lt hz (single 0 1)) (lt (single 400 1) hz) h) in
     at-most-between hz (single 400 1) 400 1 a b (whole 400 (lit< tt))
 
 pub half-bound : (hz : Float) → T (finite hz) → outside hz ≡ false → Sixteenths 3 (half (spacing hz))

@@ -11,31 +11,9 @@ use lib.Seq.{take-all, take-suc, take-suc-set, drop-set-add, take-at, ext-getD, 
 use lib.Ieee.{Float, nan}
 use Rattle.float.specs.Table.{table}
 use Rattle.float.specs.Vector.{at}
-use Rattle.float.proofs.Table.{length-table, at-table, same-table, Filled}
+use Rattle.float.proofs.Table.{at-table, same-table, table-first, take-table, table-entries, Filled}
 use Rattle.weighting.specs.Filter.{later}
 use Rattle.weighting.specs.Line.{behind, Line}
-
--- ---- tables
-pub table-first : {A : Type 0} (n : ℕ) (f : ℕ → A) → table (suc n) f ≡ f 0 ∷ table n (λ i. f (suc i))
-unfolding table
-table-first zero f = refl
-table-first (suc n) f = ap (λ l. l ++ (f (suc n) ∷ [])) (table-first n f)
-
-pub take-table : {A : Type 0} (n : ℕ) (f : ℕ → A) → take n (table (suc n) f) ≡ table n f
-unfolding table
-take-table n f = take-at (table n f) (f n ∷ []) n (length-table n f)
-
--- a list is the table of its entries
-pub table-entries : {A : Type 0} (n : ℕ) (xs : List A) (d : A) → length xs ≡ n → table n (λ i. getD xs i d) ≡ xs
-table-entries n xs d h =
-    ext-getD d (table n (λ i. getD xs i d)) xs (length-table n (λ i. getD xs i d) ∙ sym h)
-    (λ i l. at-table n (λ j. getD xs j d) i d (omega (arith, length-table n (λ j. getD xs j d))))
-
--- what is left of a list is the table of what stands there
-pub table-drop : {A : Type 0} (a n : ℕ) (xs : List A) (d : A) → length xs ≡ a + n → table n (λ i. getD xs (i + a) d) ≡ drop a xs
-table-drop a n xs d h =
-    same-table n (λ i. getD xs (i + a) d) (λ i. getD (drop a xs) i d) (λ i l. ap (λ (j : ℕ). getD xs j d) (add-comm i a) ∙ sym (getD-drop a xs i d))
-    ∙ table-entries n (drop a xs) d (simp length-drop (omega arith))
 
 -- ---- delay lines
 pub at-behind : (n : ℕ) (line : List Float) (k : ℕ) → k < 10 → at (behind n line) k ≡ at line (n + 9 - k)

@@ -1,7 +1,7 @@
 // The formant perceptual weighting filter (§2.8): its taps, and one subframe through it.
 ghost use mathlib.Core.Path.{_≡_};
 ghost use Prim.Native.Nat.{_<_};
-ghost use lib.ListN.{length, drop};
+ghost use lib.ListN.{length};
 ghost use Rattle.float.specs.Single.{_⊕_, _⊖_, _⊗_};
 ghost use Rattle.weighting.specs.Taps.{taps, weightingTaps};
 ghost use Rattle.weighting.specs.Filter.{weighted, filtered, done, refusal, weightSubframe};
@@ -109,18 +109,19 @@ pub fn weight_sample(
     f
 }
 
-// The sixty samples of a delay line.
-fn samples(line: [f32; 70]) -> [f32; 60]
-    ensures { λ r. ⌜ r ≡ drop 10 line ⌝ }
+// Sixty samples as an array of their own.
+fn sixty(x: &[f32]) -> [f32; 60]
+    requires { ⌜ length (now x) ≡ 60 ⌝ }
+    ensures { λ r. ⌜ r ≡ now (x .entry) ⌝ }
 {
     let mut out = [0.0f32; 60];
     for i in 0..60 {
-        out[i] = line[i + 10];
+        out[i] = x[i];
     }
     out
 }
 
-// Sixty samples, each replaced in its line by the output.
+// Sixty samples, each replaced by its output, which joins the line of outputs too.
 fn weight_all(
     x: &[f32],
     wz: [f32; 10],
@@ -132,13 +133,14 @@ fn weight_all(
     ensures { λ r. ⌜ r ≡ done (filtered (now (x .entry)) wz wp «x_mem» «f_mem» 60) ⌝ }
 {
     let xs = delay_line(x_mem, x);
-    let mut fs = delay_line(f_mem, x);
+    let mut fs = start_line(f_mem);
+    let mut out = sixty(x);
     for n in 0..60 {
-        let v = fs[n + 10];
+        let v = out[n];
         let f = weight_sample(v, n, &wz, &wp, &xs, &fs);
         fs[n + 10] = f;
+        out[n] = f;
     }
-    let out = samples(fs);
     let x_after = last_ten(&xs);
     let f_after = last_ten(&fs);
     Weighted {
@@ -160,7 +162,8 @@ fn refused(status: u32, x_mem: [f32; 10], f_mem: [f32; 10]) -> Weighted
     }
 }
 
-// One subframe through the filter. Both memories come back; on a refusal they are as given.
+// One subframe through the filter. Both memories come back; on a refusal they are as given. The floats are tested after the filter has run and before
+// anything is answered: the processor then tests them while the filter's last sums, each of which waits for the one before it, come in.
 pub fn weight_subframe(
     x: &[f32],
     wz: [f32; 10],
@@ -173,6 +176,7 @@ pub fn weight_subframe(
     if x.len() != 60 {
         return refused(1, x_mem, f_mem);
     }
+    let weighted = weight_all(x, wz, wp, x_mem, f_mem);
     let signal = float::all_finite(x);
     let taps = float::all_finite(&wz) & float::all_finite(&wp);
     let memories = float::all_finite(&x_mem) & float::all_finite(&f_mem);
@@ -180,5 +184,5 @@ pub fn weight_subframe(
     if !finite {
         return refused(5, x_mem, f_mem);
     }
-    weight_all(x, wz, wp, x_mem, f_mem)
+    weighted
 }

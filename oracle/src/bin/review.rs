@@ -16,7 +16,8 @@ review: check that every file, theorem, edit and test that docs/REVIEW.md names 
 A row of the page is `| C5 | \"Cosine of step k\" | .. |`: a sentence's number, its first words, what answers for it.
 A name in backquotes with a slash and no space is a path from the top of the repository, or a path and a name in that file, as
 `crates/cosine/specs/Cosine.antt#cosine`. Each path must exist, and each name must stand in its file outside comments.
-Where the numbered sentences are at hand, each row's words must open its sentence.
+Under each letter the numbers run from 1 with none missing and none twice. Where the numbered sentences are at hand, each
+row's words must open its sentence, and every sentence must have a row.
 Exit status: 0 all is there; 1 something is missing; 2 bad usage.
 ";
 
@@ -34,6 +35,7 @@ fn main() {
     };
     let sentences = sentences.map(|text| numbered(&text));
     let (mut faults, mut rows, mut bare, mut names) = (0, 0, 0, 0);
+    let mut seen: BTreeMap<char, u32> = BTreeMap::new();
     for (i, line) in read(&file).lines().enumerate() {
         let mut wrong = |what: String| {
             println!("{}:{}: {what}", file.display(), i + 1);
@@ -49,6 +51,13 @@ fn main() {
         if let Some(row) = row(line) {
             rows += 1;
             bare += usize::from(names == before);
+            let (letter, digits) = row.number.split_at(1);
+            let last = seen.entry(letter.chars().next().unwrap_or('?')).or_default();
+            *last += 1;
+            if digits.parse() != Ok(*last) {
+                wrong(format!("{} stands where {letter}{last} is due", row.number));
+                *last = digits.parse().unwrap_or(*last);
+            }
             if let Some(Err(what)) = sentences.as_ref().map(|all| opens(all, &row)) {
                 wrong(what);
             }
@@ -56,6 +65,10 @@ fn main() {
     }
     if rows == 0 {
         println!("{}: no row", file.display());
+        faults += 1;
+    }
+    if let Some(all) = sentences.as_ref().filter(|all| all.len() != rows) {
+        println!("{}: {rows} rows, and document 01 has {} sentences", file.display(), all.len());
         faults += 1;
     }
     let held = match &sentences {

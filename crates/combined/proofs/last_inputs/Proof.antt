@@ -3,8 +3,7 @@ use borrow.Author.Needs.{needs}
 use mathlib.Core.Path.{refl, _∙_}
 use Prim.Native.Nat.{_+_, _-_}
 use Rattle.float.specs.Vector.{at}
-use Rattle.float.proofs.Table.{Filled, filled-none, filled-more, filled-all}
-use Rattle.weighting.proofs.Line.{table-drop}
+use Rattle.float.proofs.Table.{table-drop, Filled, filled-none, filled-more, filled-all}
 use Rattle.combined.specs.Memory.{reach}
 use Rattle.combined.proofs.last_inputs.Statement.{statement}
 use Rattle.combined.proofs.last_inputs.Tie as tie

@@ -7,8 +7,7 @@ use native.Mathlib.Omega.{arith}
 use lib.ListN.{length, take}
 use lib.Ieee.{Float, nan}
 use Rattle.float.specs.Vector.{at}
-use Rattle.float.proofs.Table.{Filled, filled-none, filled-more}
-use Rattle.weighting.proofs.Line.{table-entries}
+use Rattle.float.proofs.Table.{table-entries, Filled, filled-none, filled-more}
 use Rattle.combined.specs.Memory.{reach}
 use Rattle.combined.proofs.start_history.Statement.{statement}
 use Rattle.combined.proofs.start_history.Tie as tie

@@ -10,13 +10,10 @@ use mir.Syntax.{w64}
 use mir.Facts.{fits-le, fits-lit}
 use native.Mathlib.Nat.{le-trans}
 use Rattle.quarter.specs.Quarter.{quarter, quarterTable}
-use Rattle.quarter.proofs.Lookup.{table-at}
+use Rattle.quarter.proofs.Lookup.{looked}
 use Rattle.quarter.proofs.Fall.{at-most}
 use Rattle.cosine.proofs.entry_at.Statement.{statement}
 use Rattle.cosine.proofs.entry_at.Tie as tie
-
-looked : (t : List ℕ) (i : ℕ) → t ≡ quarterTable → i ≤ 2048 → getD t i 0 ≡ quarter i
-looked t i e h = ap (λ (l : List ℕ). getD l i 0) e ∙ table-at i (suc-le-suc h)
 
 pub entry-at-spec : {M : Type 1} → statement M
 entry-at-spec =

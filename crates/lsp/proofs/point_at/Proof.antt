@@ -11,16 +11,13 @@ use lib.ListN.{getD}
 use Rattle.float.specs.Double.{_⧄_, double}
 use Rattle.float.proofs.Rounded.{round-neg}
 use Rattle.quarter.specs.Quarter.{quarter, quarterTable, entry}
-use Rattle.quarter.proofs.Lookup.{table-at}
+use Rattle.quarter.proofs.Lookup.{looked}
 use Rattle.quarter.proofs.Entry.{entry-low, entry-high}
 use Rattle.quarter.proofs.Fall.{fall}
 use Rattle.lsp.specs.Root.{point}
 use borrow.Author.Needs.{needs}
 use Rattle.lsp.proofs.point_at.Statement.{statement}
 use Rattle.lsp.proofs.point_at.Tie as tie
-
-looked : (t : List ℕ) (i : ℕ) → t ≡ quarterTable → i ≤ 2048 → getD t i 0 ≡ quarter i
-looked t i e h = ap (λ (l : List ℕ). getD l i 0) e ∙ table-at i (omega arith)
 
 low : (t : List ℕ) (i : ℕ) → t ≡ quarterTable → i ≤ 512 → ofInt binary64 (pos (getD t (4 * i) 0)) ⧄ ofBits binary64 4742290407621132288 ≡ point i
 unfolding point double round ofBits

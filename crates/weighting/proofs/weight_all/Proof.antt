@@ -9,10 +9,10 @@ use Rattle.weighting.proofs.weight_all.Tie as tie
 
 -- the memories given are those of the lines at the start
 abbrev Inv-loop : tie.InvT-loop
-Inv-loop x wz wp xs fs₀ n₀ fs n = Running x wz wp (behind 0 xs) (behind 0 fs₀) n fs
+Inv-loop x wz wp xs fs₀ out₀ n₀ fs out n = Running x wz wp (behind 0 xs) (behind 0 fs₀) n fs out
 
 abbrev μ-loop : tie.MeasureT-loop
-μ-loop x wz wp xs fs₀ n₀ fs n = 60 - n
+μ-loop x wz wp xs fs₀ out₀ n₀ fs out n = 60 - n
 
 pub weight-all-spec : {M : Type 1} → statement M
 weight-all-spec =
@@ -22,12 +22,12 @@ weight-all-spec =
     μ-loop
     -- delay-line-requires
     (λ c κs. search needs)
-    -- delay-line-requires-2
+    -- start-line-requires
+    (λ c κs. search needs)
+    -- sixty-requires
     (λ c κs. search needs)
     -- loop-holds
-    (λ c. running-none _ _ _ _ _ _ (own-line (c .delay-line2 .ensures)))
-    -- add-v
-    (λ c. search needs)
+    (λ c. running-none _ _ _ _ _ _ (search needs) (c .sixty .ensures))
     -- mul-v
     (λ c. search needs)
     -- array-read-v
@@ -40,20 +40,21 @@ weight-all-spec =
     (λ c. search needs)
     -- array-write-fs
     (λ c. search needs)
+    -- mul-out
+    (λ c. search needs)
+    -- array-write-out
+    (λ c. search needs)
     -- add-n
     (λ c. search needs)
     -- loop-less
     (λ c. search needs)
     -- loop-again
-    (λ c. running-more _ _ _ _ _ _ _ (c .before .before .before .before .before .before .before .before .before .before .pre) (c .before .before .before .before .before .loop-test .taken) (c .before .before .before .before .before .before .loop .inv)
-    _ _ _ (own-line (c .before .before .before .before .before .before .before .before .delay-line .ensures)) refl (c .weight-sample .ensures))
-    -- samples-requires
-    (λ c κs. search needs)
+    (λ c. running-more _ _ _ _ _ _ _ _ (c .before .before .before .before .before .before .before .before .before .before .before .pre) (c .before .before .before .before .before .loop-test .taken) (c .before .before .before .before .before .before .loop .inv)
+    _ _ _ (own-line (c .before .before .before .before .before .before .before .before .before .delay-line .ensures)) refl (c .weight-sample .ensures))
     -- last-ten-requires
     (λ c κs. search needs)
     -- last-ten-requires-2
     (λ c κs. search needs)
     -- returns
-    (λ c. running-all _ _ _ _ _ _ _ _ _ _ _ _ (c .before .before .before .before .before .before .before .before .before .before .pre)
-    (c .before .before .before .before .before .before .before .before .delay-line .ensures) (c .before .before .before .before .before .before .before .delay-line2 .ensures) (c .before .before .before .before .before .loop-test .left)
-    (c .before .before .before .before .samples .ensures) (c .before .before .last-ten .ensures) (c .last-ten2 .ensures) (c .before .before .before .before .before .before .loop .inv)))
+    (λ c. running-all _ _ _ _ _ _ _ _ _ _ _ _ (c .before .before .before .before .before .before .before .before .before .before .pre) (c .before .before .before .before .before .before .before .before .delay-line .ensures) (c .before .before .before .before .before .before .before .start-line .ensures)
+    (c .before .before .before .before .loop-test .left) (c .before .before .last-ten .ensures) (c .last-ten2 .ensures) (c .before .before .before .before .before .loop .inv)))

@@ -49,6 +49,8 @@ weight-subframe-spec =
     (λ c κs. search needs)
     -- returns
     (λ c. short _ _ _ _ _ _ (c .before .if1 .taken) (c .refused .ensures))
+    -- weight-all-requires
+    (λ c κs. search needs)
     -- all-finite-requires
     (λ c κs. search needs)
     -- slice-aggregate-all-finite
@@ -70,12 +72,10 @@ weight-subframe-spec =
     -- refused-requires-2
     (λ c κs. search needs)
     -- returns-2
-    (λ c. wild _ _ _ _ _ _ (c .before .before .before .before .before .before .before .before .before .before .before .if1 .left)
+    (λ c. wild _ _ _ _ _ _ (c .before .before .before .before .before .before .before .before .before .before .before .before .if1 .left)
     (joined _ _ _ _ _ _ _ _ _ _ _ (c .before .before .before .before .before .before .before .before .before .before .all-finite .ensures) (c .before .before .before .before .before .before .before .before .all-finite2 .ensures) (c .before .before .before .before .before .before .all-finite3 .ensures) (c .before .before .before .before .all-finite4 .ensures) (c .before .before .all-finite5 .ensures) (not-true _ (c .before .if2 .taken)))
     (c .refused2 .ensures))
-    -- weight-all-requires
-    (λ c κs. search needs)
     -- returns-3
     (λ c. whole _ _ _ _ _ _ (c .before .before .before .before .before .before .before .before .before .before .before .if1 .left)
-    (joined _ _ _ _ _ _ _ _ _ _ _ (c .before .before .before .before .before .before .before .before .before .before .all-finite .ensures) (c .before .before .before .before .before .before .before .before .all-finite2 .ensures) (c .before .before .before .before .before .before .all-finite3 .ensures) (c .before .before .before .before .all-finite4 .ensures) (c .before .before .all-finite5 .ensures) (not-false _ (c .before .if2 .left)))
-    (c .weight-all .ensures)))
+    (joined _ _ _ _ _ _ _ _ _ _ _ (c .before .before .before .before .before .before .before .before .before .all-finite .ensures) (c .before .before .before .before .before .before .before .all-finite2 .ensures) (c .before .before .before .before .before .all-finite3 .ensures) (c .before .before .before .all-finite4 .ensures) (c .before .all-finite5 .ensures) (not-false _ (c .if2 .left)))
+    (c .before .before .before .before .before .before .before .before .before .before .weight-all .ensures)))
