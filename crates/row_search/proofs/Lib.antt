@@ -1,2 +1,3 @@
+mod Four
 pub mod Searching
 pub mod Least

@@ -1,2 +1,3 @@
 pub mod Error
 pub mod Search
+pub mod Four

@@ -4,7 +4,14 @@ ghost use mathlib.Core.Path.{_≡_};
 ghost use Prim.Native.Nat.{_+_, _*_, _≤_};
 ghost use lib.ListN.{length};
 ghost use Rattle.row_search.specs.Error.{rowError};
-ghost use Rattle.row_search.specs.Search.{best, errors};
+ghost use Rattle.row_search.specs.Search.{better, best, errors};
+ghost use Rattle.row_search.specs.Four.{pair, fourRows};
+
+// The smallest error so far and its index.
+struct Smallest {
+    error: f32,
+    index: usize,
+}
 
 // The weighted squared error of a row of any width.
 pub fn row_error(
@@ -26,6 +33,67 @@ pub fn row_error(
     error
 }
 
+// An error and its index, after the smallest so far.
+fn offer(best: Smallest, error: f32, index: usize) -> Smallest
+    ensures { λ r. ⌜ pair r ≡ better error index (pair best) ⌝ }
+{
+    if error < best.error {
+        return Smallest { error, index };
+    }
+    best
+}
+
+// Four errors, from index `i` on. Seldom is one of them below the smallest so far: one test passes over the four.
+fn offer_four(best: Smallest, a: f32, b: f32, c: f32, d: f32, i: usize) -> Smallest
+    requires { ⌜ i + 3 ≤ 18446744073709551615 ⌝ }
+    ensures { λ r. ⌜ pair r ≡ better d (i + 3) (better c (i + 2) (better b (i + 1) (better a i (pair best)))) ⌝ }
+{
+    let least = best.error;
+    if (a < least) | (b < least) | (c < least) | (d < least) {
+        let one = offer(best, a, i);
+        let two = offer(one, b, i + 1);
+        let three = offer(two, c, i + 2);
+        return offer(three, d, i + 3);
+    }
+    best
+}
+
+// Four rows one after the other, from place `place` and index `i` on; each error keeps its own order.
+// Widths 3 and 4 stand as numbers, so that the rows are unrolled and the four errors are one vector.
+fn four_rows(
+    best: Smallest,
+    rows: &[i16],
+    place: usize,
+    width: usize,
+    target: &[f32],
+    weights: &[f32],
+    start: usize,
+    i: usize,
+) -> Smallest
+    requires { ⌜ (place + 4 * width ≤ length (now rows)) × (start + width ≤ length (now target)) × (start + width ≤ length (now weights)) × (i + 3 ≤ 18446744073709551615) ⌝ }
+    ensures { λ r. ⌜ pair r ≡ fourRows (rowError (now (target .entry)) (now (weights .entry)) start (now (rows .entry)) width) width place i (pair best) ⌝ }
+{
+    if width == 3 {
+        let a = row_error(rows, place, 3, target, weights, start);
+        let b = row_error(rows, place + 3, 3, target, weights, start);
+        let c = row_error(rows, place + 6, 3, target, weights, start);
+        let d = row_error(rows, place + 9, 3, target, weights, start);
+        return offer_four(best, a, b, c, d, i);
+    }
+    if width == 4 {
+        let a = row_error(rows, place, 4, target, weights, start);
+        let b = row_error(rows, place + 4, 4, target, weights, start);
+        let c = row_error(rows, place + 8, 4, target, weights, start);
+        let d = row_error(rows, place + 12, 4, target, weights, start);
+        return offer_four(best, a, b, c, d, i);
+    }
+    let a = row_error(rows, place, width, target, weights, start);
+    let b = row_error(rows, place + width, width, target, weights, start);
+    let c = row_error(rows, place + 2 * width, width, target, weights, start);
+    let d = row_error(rows, place + 3 * width, width, target, weights, start);
+    offer_four(best, a, b, c, d, i)
+}
+
 // The row of smallest error among `count` rows of `width` numbers from place `first` on, the first of equals.
 pub fn best_row(
     rows: &[i16],
@@ -39,16 +107,24 @@ pub fn best_row(
     requires { ⌜ (first + count * width ≤ length (now rows)) × (start + width ≤ length (now target)) × (start + width ≤ length (now weights)) ⌝ }
     ensures { λ r. ⌜ r ≡ best (errors (now (target .entry)) (now (weights .entry)) start (now (rows .entry)) width first) count ⌝ }
 {
-    let mut least = 1.0f32 / 0.0;
-    let mut found = 0;
+    let mut best = Smallest {
+        error: 1.0f32 / 0.0,
+        index: 0,
+    };
     let mut place = first;
-    for i in 0..count {
-        let error = row_error(rows, place, width, target, weights, start);
-        if error < least {
-            least = error;
-            found = i;
-        }
-        place += width;
+    let mut i = 0;
+    while count - i >= 4 {
+        let more = four_rows(best, rows, place, width, target, weights, start, i);
+        best = more;
+        place += 4 * width;
+        i += 4;
     }
-    found
+    while i < count {
+        let error = row_error(rows, place, width, target, weights, start);
+        let more = offer(best, error, i);
+        best = more;
+        place += width;
+        i += 1;
+    }
+    best.index
 }
