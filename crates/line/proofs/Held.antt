@@ -19,11 +19,12 @@ use Rattle.float.specs.Finite.{power, exceeds, anyExceeds}
 use Rattle.float.specs.Refusal.{all}
 use Rattle.float.specs.Single.{single}
 use Rattle.float.specs.Table.{table}
+use Rattle.float.specs.Vector.{at}
 use Rattle.float.proofs.Near.{Good, one-side}
 use Rattle.float.proofs.Table.{length-table, at-table}
 use Rattle.float.proofs.Whole.{Whole, whole, upper, lower, units-bound}
 use Rattle.spec_tables.specs.Tables.{dcFreq}
-use Rattle.row_search.specs.Error.{at, number}
+use Rattle.row_search.specs.Error.{number}
 use Rattle.spec_lsp.specs.Decode.{rebuilt, bandRow, rowNumbers, decoded}
 use Rattle.line.specs.Small.{most, small, SmallRows}
 use Rattle.line.specs.Claim.{resting, Near, Ten}

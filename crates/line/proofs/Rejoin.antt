@@ -25,8 +25,8 @@ use Rattle.float.specs.Difference.{difference}
 use Rattle.float.specs.Finite.{notFinite, anyExceeds}
 use Rattle.float.specs.Refusal.{all}
 use Rattle.float.specs.Single.{single}
+use Rattle.float.specs.Vector.{at}
 use Rattle.spec_tables.specs.Codebook.{lspBand0, lspBand1, lspBand2, lspRows}
-use Rattle.row_search.specs.Error.{at}
 use Rattle.spec_lsp.specs.declared.decode.LspFreq.{LspFreq}
 use Rattle.spec_lsp.specs.declared.quantise.Quantised.{Quantised}
 use Rattle.spec_lsp.specs.Decode.{decodeLspFreq}

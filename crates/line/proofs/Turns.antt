@@ -11,7 +11,7 @@ use lib.Dec.{T, eqb, eqb→eq}
 use lib.IntN.{ℤ}
 use lib.Ieee.{Float}
 use Rattle.float.specs.Difference.{difference}
-use Rattle.row_search.specs.Error.{at}
+use Rattle.float.specs.Vector.{at}
 use Rattle.spec_lsp.specs.Decode.{decoded, decodeLspFreq}
 use Rattle.spec_lsp.specs.Quantise.{quantisedAs, quantiseBy}
 use Rattle.spec_lsp.proofs.Refusals.{decode-done, quantised-set}

@@ -12,8 +12,9 @@ use Rattle.float.specs.Difference.{difference}
 use Rattle.float.specs.Finite.{notFinite, anyExceeds}
 use Rattle.float.specs.Single.{single}
 use Rattle.float.specs.Table.{table}
+use Rattle.float.specs.Vector.{at}
 use Rattle.spec_tables.specs.Tables.{dcFreq}
-use Rattle.row_search.specs.Error.{at, number}
+use Rattle.row_search.specs.Error.{number}
 use Rattle.line.specs.declared.Turn.{Turn}
 use Rattle.line.specs.declared.Ends.{Ends}
 use Rattle.line.specs.Line.{Set, Coder, Decoder, arrives, run, arrivals, losses}

@@ -4,14 +4,12 @@ use Prim.Native.Nat.{ℕ, _+_}
 use mathlib.Core.List.{List}
 use lib.IntN.{ℤ, pos}
 use lib.ListN.{getD}
-use lib.Ieee.{Float, nan, binary32, ofInt}
+use lib.Ieee.{Float, binary32, ofInt}
 use Rattle.float.specs.Loop.{sum}
 use Rattle.float.specs.Single.{_⊖_, _⊗_}
+use Rattle.float.specs.Vector.{at}
 
--- what stands at a place of a list of singles, and of a list of whole numbers as a single
-abbrev pub at : List Float → ℕ → Float
-at xs i = getD xs i nan
-
+-- what stands at a place of a list of whole numbers, as a single
 abbrev pub number : List ℤ → ℕ → Float
 number rows i = ofInt binary32 (getD rows i (pos 0))
 

@@ -10,12 +10,13 @@ use Rattle.float.specs.Table.{table}
 use Rattle.float.specs.Refusal.{first, answer}
 use Rattle.float.specs.Finite.{notFinite, anyExceeds}
 use Rattle.float.specs.Single.{_⊕_, _⊖_, _⊗_, single}
+use Rattle.float.specs.Vector.{at}
 use Rattle.spec_tables.specs.Tables.{dcFreq}
 use Rattle.spec_tables.specs.Rows.{rowPlace}
 use Rattle.spec_tables.specs.Band.{placeOf}
 use Rattle.spec_tables.specs.declared.LspBand.{LspBand}
 use Rattle.spec_tables.specs.declared.LspBand.the-variants.{Band0, Band1, Band2}
-use Rattle.row_search.specs.Error.{at, number}
+use Rattle.row_search.specs.Error.{number}
 use Rattle.spec_lsp.specs.Index.{split}
 use Rattle.spec_lsp.specs.declared.decode.LspFreq.{LspFreq}
 

@@ -10,8 +10,9 @@ use lib.Ieee.{Float, fin, binary32, add, sub, ofInt, ofBits}
 use mir.Facts.{toZ-ofZ}
 use mir.Syntax.{w16}
 use mir.Val.{toZ, ofZ}
+use Rattle.float.specs.Vector.{at}
 use Rattle.float.proofs.Loop.{Went, went-none, went-more, went-all}
-use Rattle.row_search.specs.Error.{at, squared, term, rowError}
+use Rattle.row_search.specs.Error.{squared, term, rowError}
 use Rattle.row_search.proofs.row_error.Statement.{statement}
 use Rattle.row_search.proofs.row_error.Tie as tie
 

@@ -9,9 +9,10 @@ use lib.Ieee.{Float, binary32, ofInt}
 use mir.Facts.{toZ-ofZ}
 use mir.Syntax.{w16}
 use Rattle.float.specs.Table.{table}
+use Rattle.float.specs.Vector.{at}
 use Rattle.float.proofs.Table.{Filled, filled-none, filled-more, filled-all}
 use Rattle.spec_tables.specs.Tables.{dcFreq}
-use Rattle.row_search.specs.Error.{at, number}
+use Rattle.row_search.specs.Error.{number}
 use Rattle.spec_lsp.specs.Decode.{rebuilt, rowNumbers, decoded}
 use Rattle.spec_lsp.proofs.decode.decode_set.Statement.{statement}
 use Rattle.spec_lsp.proofs.decode.decode_set.Tie as tie

@@ -9,7 +9,7 @@ use native.Mathlib.Omega.{arith}
 use lib.Dec.{eqb}
 use lib.Ieee.{Float}
 use Rattle.float.specs.Single.{_⊖_}
-use Rattle.row_search.specs.Error.{at}
+use Rattle.float.specs.Vector.{at}
 use Rattle.spec_lsp.specs.Quantise.{smaller, gap, nearest}
 use Rattle.spec_lsp.proofs.quantise.nearest.Statement.{statement}
 use Rattle.spec_lsp.proofs.quantise.nearest.Tie as tie

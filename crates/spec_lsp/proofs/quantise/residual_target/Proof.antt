@@ -10,9 +10,10 @@ use mir.Facts.{toZ-ofZ}
 use mir.Syntax.{w16}
 use Rattle.float.specs.Single.{_⊖_}
 use Rattle.float.specs.Table.{table}
+use Rattle.float.specs.Vector.{at}
 use Rattle.float.proofs.Table.{Filled, filled-none, filled-more, filled-all}
 use Rattle.spec_tables.specs.Tables.{dcFreq}
-use Rattle.row_search.specs.Error.{at, number}
+use Rattle.row_search.specs.Error.{number}
 use Rattle.spec_lsp.specs.Decode.{predicted}
 use Rattle.spec_lsp.specs.Quantise.{target}
 use Rattle.spec_lsp.proofs.quantise.residual_target.Statement.{statement}
