@@ -11,6 +11,7 @@ pub mod distances;
 pub mod doors;
 pub mod given;
 pub mod inputs;
+pub mod line_coder;
 pub mod operations;
 pub mod progress;
 pub mod random;
@@ -19,6 +20,7 @@ pub mod rule;
 pub mod runner;
 pub mod shrink;
 pub mod sources;
+pub mod speech;
 pub mod trial;
 pub mod words;
 
