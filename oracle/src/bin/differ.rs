@@ -90,14 +90,15 @@ fn main() {
     }
     name_the_turn_of_a_panic(seed);
     let turns = turn.map_or(0..count, |turn| turn..turn + 1);
-    let mut run = Run { judge, seed, turns, threads, progress: Progress::new(progress) };
+    let run = Run { judge, seed, turns, threads };
+    let mut progress = Progress::new(progress);
     let ends = time.map(|time| Instant::now() + time);
     let mut good = true;
     for (done, operation) in chosen.iter().enumerate() {
         // What is left of the time, shared evenly between the functions that are left.
         let left = (chosen.len() - done) as u32;
         let until = ends.map(|ends| Instant::now() + ends.saturating_duration_since(Instant::now()) / left);
-        match run.compare(operation, until) {
+        match run.compare(operation, until, &mut progress) {
             Outcome::Differs => {
                 println!("stopped at the first difference: compared {} of {}", done + 1, OPERATIONS.len());
                 exit(1);
@@ -183,7 +184,6 @@ struct Run {
     seed: u64,
     turns: Range<u64>,
     threads: usize,
-    progress: Progress,
 }
 
 impl Run {
@@ -195,9 +195,8 @@ impl Run {
     }
 
     /// Compares one operation over the turns; prints its line, after the difference if there is one.
-    fn compare(&mut self, operation: &'static Operation, until: Option<Instant>) -> Outcome {
+    fn compare(&self, operation: &'static Operation, until: Option<Instant>, progress: &mut Progress) -> Outcome {
         let began = Instant::now();
-        let mut progress = std::mem::replace(&mut self.progress, Progress::new(false));
         let plan = Plan { turns: self.turns.clone(), until, threads: self.threads };
         let one = |turn, tally: &mut Tally| {
             AT.set((operation.name, turn));
@@ -211,7 +210,6 @@ impl Run {
         };
         let tally = run(&plan, &one, |tally| progress.show(|| shown(operation, &plan, tally, began)));
         progress.clear();
-        self.progress = progress;
         if let Some(turn) = tally.fault {
             self.explain(operation, turn);
         }
@@ -234,7 +232,8 @@ impl Run {
         };
         println!("{}: {fault} (seed {}, turn {turn})", operation.name, self.seed);
         show(operation, &given, &trial);
-        let again = format!("differ --only {} --seed {} --turn {turn}", operation.name, self.seed);
+        let differ = if self.judge.plant { "differ --plant" } else { "differ" };
+        let again = format!("{differ} --only {} --seed {} --turn {turn}", operation.name, self.seed);
         let mut faulty = |given: &[u32]| self.judge.replay(operation, given).fault.as_ref() == Some(fault);
         if !faulty(&given) {
             println!("its input alone does not show it; again: {again}");
@@ -244,7 +243,7 @@ impl Run {
         println!("{}: {fault}, the plainest input of {} tried", operation.name, smallest.trials);
         show(operation, &smallest.given, &self.judge.replay(operation, &smallest.given));
         println!("again: {again}");
-        println!("replay: differ --replay \"{}\"", given::line(operation, &smallest.given));
+        println!("replay: {differ} --replay \"{}\"", given::line(operation, &smallest.given));
     }
 }
 
