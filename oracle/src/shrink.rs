@@ -120,17 +120,17 @@ impl Search<'_> {
     }
 
     fn plainer_piece(&mut self, at: usize, start: usize, end: usize) {
-        let fills = if is_whole(&self.takes[at]) { vec![0] } else { vec![0, ONE] };
+        let fills: &[u32] = if is_whole(&self.takes[at]) { &[0] } else { &[0, ONE] };
         for fill in fills {
             let mut parts = self.best.clone();
-            parts[at][start..end].fill(fill);
+            parts[at][start..end].fill(*fill);
             if self.attempt(parts) {
                 return;
             }
         }
         let mut parts = self.best.clone();
-        for i in start..end {
-            parts[at][i] = self.rest(at, i);
+        for (i, word) in parts[at][start..end].iter_mut().enumerate() {
+            *word = self.rest(at, start + i);
         }
         self.attempt(parts);
     }
