@@ -169,7 +169,9 @@ fn name_the_turn_of_a_panic(seed: u64) {
     std::panic::set_hook(Box::new(move |info| {
         usual(info);
         let (name, turn) = AT.get();
-        eprintln!("it was at: differ --only {name} --seed {seed} --turn {turn}");
+        if !name.is_empty() {
+            eprintln!("it was at: differ --only {name} --seed {seed} --turn {turn}");
+        }
     }));
 }
 
