@@ -1,44 +1,32 @@
 //! Times the published Rust and the library's doors side by side, on speech-like inputs.
 
+mod chart;
+mod measure;
+mod pairs;
+mod rows;
+
 use oracle::args::{fail, Args};
-use oracle::doors::*;
 use oracle::found::{LIBRARY, LIBRARY_PATH};
-use oracle::inputs;
-use oracle::operations::OPERATIONS;
-use oracle::random::Random;
-use oracle::reference::{Memory, Rust};
-use std::collections::BTreeMap;
 use std::fs;
-use std::hint::black_box;
 use std::path::PathBuf;
-use std::time::Instant;
 
 const HELP: &str = "\
 bench: time the published Rust and the doors of the library side by side
 
-  --only NAME         one function alone
-  --batches N         batches of each side, in turn; the median counts (301)
-  --seed S            the seed of the inputs (1)
-  --counts FILE       instruction counts to print beside the times: lines `NAME rust|ours COUNT`
-  --list              print the names of the functions that can be timed
-  --calls NAME SIDE N call one function N times and print nothing, for a counter of instructions; SIDE is rust or ours
-  --help              this text
+  --only NAME    one function alone
+  --batches N    batches of each side of each function, in turn; the median counts (301)
+  --seed S       the seed of the inputs (1)
+  --counts FILE  instruction counts to print beside the times: lines `NAME rust|ours TOTAL`, over all 32 inputs
+  --chart FILE   write the ratios there as a picture (SVG)
+  --list         print the names of the functions that can be timed
+  --count        call each side of each function on all 32 inputs and print `NAME rust|ours` after each, for a counter
+                 of instructions that counts inside bench_counted
+  --help         this text
 
-It prints a table in markdown. bench/run builds it, counts instructions and runs it.
-Exit status: 0 done; 1 the Rust or the library is not at hand; 2 bad usage.
+It prints a table in markdown. The last row is the sum over the calls of one frame, from the rows above it.
+bench/run builds it, counts instructions and runs it.
+Exit status: 0 done; 1 the Rust or the library is not at hand, or a file could not be written; 2 bad usage.
 ";
-
-/// Different inputs that a function is called on in turn.
-const INPUTS: usize = 32;
-/// A batch takes about this long, in seconds.
-const BATCH: f64 = 200e-6;
-
-/// One function, both ways; the number picks an input.
-struct Pair {
-    name: &'static str,
-    rust: Box<dyn FnMut(usize)>,
-    ours: Box<dyn FnMut(usize)>,
-}
 
 fn main() {
     let mut args = Args::new(HELP);
@@ -46,17 +34,17 @@ fn main() {
     let batches = args.value("--batches").unwrap_or(301usize).max(1);
     let seed = args.value("--seed").unwrap_or(1u64);
     let counts: Option<PathBuf> = args.value("--counts");
+    let chart: Option<PathBuf> = args.value("--chart");
     let list = args.flag("--list");
-    let calls = args.flag("--calls").then(|| {
-        (
-            args.word(),
-            args.word(),
-            args.word().and_then(|n| n.parse::<usize>().ok()),
-        )
-    });
+    let count = args.flag("--count");
+    if let Some(name) = &only {
+        if pairs::landed().all(|landed| landed != name) {
+            args.fail(&format!("there is no function {name}"));
+        }
+    }
     args.end();
     if list {
-        landed().for_each(|name| println!("{name}"));
+        pairs::landed().for_each(|name| println!("{name}"));
         return;
     }
     let both = oracle::rust().unwrap_or_else(|why| fail(&format!("nothing to time: {why}")));
@@ -65,332 +53,21 @@ fn main() {
             "nothing to time: there is no library at {LIBRARY_PATH}"
         ));
     }
-    let mut pairs = pairs(both.published, seed);
-    if let Some(call) = calls {
-        let (Some(name), Some(side), Some(n)) = call else {
-            fail("--calls NAME rust|ours N")
-        };
-        let Some(pair) = pairs.iter_mut().find(|pair| pair.name == name) else {
-            fail(&format!("there is no function {name}"))
-        };
-        let run = match side.as_str() {
-            "rust" => &mut pair.rust,
-            "ours" => &mut pair.ours,
-            _ => fail("a side is rust or ours"),
-        };
-        (0..n).for_each(|i| run(i % INPUTS));
+    let mut pairs = pairs::pairs(both.published, seed, only.as_deref());
+    if count {
+        measure::count(&mut pairs);
         return;
     }
-    let counted = counts.map(|path| counted(&path)).unwrap_or_default();
-    println!("| function | Rust | ours | ours / Rust | instructions, Rust | ours | ours / Rust |\n|---|---|---|---|---|---|---|");
-    for pair in pairs
-        .iter_mut()
-        .filter(|pair| only.as_deref().is_none_or(|name| name == pair.name))
-    {
-        let (rust, ours) = times(pair, batches);
-        let count = |side: &str| {
-            counted
-                .get(&(pair.name.to_string(), side.to_string()))
-                .copied()
-        };
-        let (left, right) = (count("rust"), count("ours"));
-        let shown = |n: Option<f64>| n.map_or("–".to_string(), |n| format!("{n:.0}"));
-        let share = match (left, right) {
-            (Some(left), Some(right)) if left > 0.0 => format!("{:.2}", right / left),
-            _ => "–".to_string(),
-        };
-        println!(
-            "| {} | {rust:.0} ns | {ours:.0} ns | {:.2} | {} | {} | {share} |",
-            pair.name,
-            ours / rust,
-            shown(left),
-            shown(right)
-        );
-    }
-}
-
-fn landed() -> impl Iterator<Item = &'static str> {
-    OPERATIONS
-        .iter()
-        .filter(|operation| operation.landed())
-        .map(|operation| operation.name)
-}
-
-/// Instruction counts by function and side.
-fn counted(path: &PathBuf) -> BTreeMap<(String, String), f64> {
-    let text =
-        fs::read_to_string(path).unwrap_or_else(|e| fail(&format!("{}: {e}", path.display())));
-    let mut all = BTreeMap::new();
-    for line in text.lines() {
-        if let [name, side, count] = line.split_whitespace().collect::<Vec<_>>()[..] {
-            all.insert(
-                (name.to_string(), side.to_string()),
-                count.parse().unwrap_or(f64::NAN),
-            );
+    let counted = counts
+        .map(|path| measure::counts(&path))
+        .unwrap_or_default();
+    let times = measure::times(&mut pairs, batches);
+    let names: Vec<&str> = pairs.iter().map(|pair| pair.name).collect();
+    let rows = rows::rows(&names, &times, &counted);
+    print!("{}", rows::table(&rows));
+    if let Some(path) = chart {
+        if let Err(why) = fs::write(&path, chart::svg(&rows)) {
+            fail(&format!("{}: {why}", path.display()));
         }
-    }
-    all
-}
-
-/// The median time of a call, of each side, in nanoseconds; the batches of the two take turns.
-fn times(pair: &mut Pair, batches: usize) -> (f64, f64) {
-    let once = batch(&mut pair.ours, INPUTS * 4).max(batch(&mut pair.rust, INPUTS * 4)) * 1e-9;
-    let calls = ((BATCH / once) as usize).clamp(INPUTS, 200_000) / INPUTS * INPUTS;
-    let (mut rust, mut ours) = (Vec::new(), Vec::new());
-    for _ in 0..batches {
-        rust.push(batch(&mut pair.rust, calls));
-        ours.push(batch(&mut pair.ours, calls));
-    }
-    (median(rust), median(ours))
-}
-
-/// The time of a call over a batch, in nanoseconds.
-fn batch(run: &mut Box<dyn FnMut(usize)>, calls: usize) -> f64 {
-    let began = Instant::now();
-    for i in 0..calls {
-        run(i % INPUTS);
-    }
-    began.elapsed().as_secs_f64() * 1e9 / calls as f64
-}
-
-fn median(mut times: Vec<f64>) -> f64 {
-    times.sort_by(f64::total_cmp);
-    times[times.len() / 2]
-}
-
-/// So many inputs of one kind.
-fn drawn<T>(random: &mut Random, draw: impl Fn(&mut Random) -> T) -> Vec<T> {
-    (0..INPUTS).map(|_| draw(random)).collect()
-}
-
-/// Speech at the level of 16-bit samples.
-fn speech(random: &mut Random, n: usize) -> Vec<f32> {
-    inputs::speech(random, n)
-        .into_iter()
-        .map(|x| (8_000.0 * x).round() as f32)
-        .collect()
-}
-
-fn sixty(random: &mut Random) -> [f32; 60] {
-    let speech = speech(random, 60);
-    std::array::from_fn(|i| speech[i])
-}
-
-/// The functions that have landed, each on inputs of its own, the same for both sides.
-fn pairs(rust: Rust, seed: u64) -> Vec<Pair> {
-    landed()
-        .map(|name| pair(name, &rust, &mut Random::new(seed, 0, 0)))
-        .collect()
-}
-
-fn pair(name: &'static str, rust: &Rust, random: &mut Random) -> Pair {
-    macro_rules! pair {
-        ($f:ident, $in:expr, |$x:ident| $rust:expr, $out:expr, |$y:ident, $o:ident| $ours:expr) => {{
-            let $f = rust.$f;
-            let left = $in;
-            let right = left.clone();
-            let mut results = $out;
-            Pair {
-                name,
-                rust: Box::new(move |i| {
-                    let $x = &left[i];
-                    black_box($rust);
-                }),
-                ours: Box::new(move |i| {
-                    let $y = &right[i];
-                    let $o = &mut results;
-                    black_box(unsafe { $ours });
-                    black_box(&results);
-                }),
-            }
-        }};
-    }
-    match name {
-        "lpc_analysis" => pair!(
-            lpc_analysis,
-            drawn(random, |r| speech(r, 180)),
-            |x| lpc_analysis(x),
-            ([0f32; 11], [0f64; 11], 0f32),
-            |x, o| g7231_lpc_analysis(
-                x.as_ptr(),
-                x.len(),
-                o.0.as_mut_ptr(),
-                o.1.as_mut_ptr(),
-                &mut o.2
-            )
-        ),
-        "lpc_to_lsp" => pair!(
-            lpc_to_lsp,
-            drawn(random, inputs::filter),
-            |x| lpc_to_lsp(x),
-            [0f32; 10],
-            |x, o| g7231_lpc_to_lsp(x.as_ptr(), o.as_mut_ptr())
-        ),
-        "lsp_cosines_to_freq" => pair!(
-            lsp_cosines_to_freq,
-            drawn(random, inputs::cosines),
-            |x| lsp_cosines_to_freq(x),
-            [0f32; 10],
-            |x, o| g7231_lsp_cosines_to_freq(x.as_ptr(), o.as_mut_ptr())
-        ),
-        "lsp_freq_to_cosines" => pair!(
-            lsp_freq_to_cosines,
-            drawn(random, inputs::ordered),
-            |x| lsp_freq_to_cosines(x),
-            [0f32; 10],
-            |x, o| g7231_lsp_freq_to_cosines(x.as_ptr(), o.as_mut_ptr())
-        ),
-        "quantise_lsp_freq" => pair!(
-            quantise_lsp_freq,
-            drawn(random, |r| (inputs::ordered(r), inputs::decoded(r))),
-            |x| quantise_lsp_freq(&x.0, &x.1),
-            (0u32, [0f32; 10]),
-            |x, o| g7231_quantise_lsp_freq(x.0.as_ptr(), x.1.as_ptr(), &mut o.0, o.1.as_mut_ptr())
-        ),
-        "decode_lsp_freq" => pair!(
-            decode_lsp_freq,
-            drawn(random, |r| (r.bits() >> 8, inputs::decoded(r))),
-            |x| decode_lsp_freq(x.0, &x.1),
-            [0f32; 10],
-            |x, o| g7231_decode_lsp_freq(x.0, x.1.as_ptr(), o.as_mut_ptr())
-        ),
-        "enforce_lsp_stability" => pair!(
-            enforce_lsp_stability,
-            drawn(random, inputs::cosines),
-            |x| enforce_lsp_stability(x, 31.25),
-            ([0f32; 10], 0u32),
-            |x, o| g7231_enforce_lsp_stability(x.as_ptr(), 31.25, o.0.as_mut_ptr(), &mut o.1)
-        ),
-        "interpolate_lsp" => pair!(
-            interpolate_lsp,
-            drawn(random, |r| (
-                r.below(4),
-                inputs::cosines(r),
-                inputs::cosines(r)
-            )),
-            |x| interpolate_lsp(x.0, &x.1, &x.2),
-            [0f32; 10],
-            |x, o| g7231_interpolate_lsp(x.0, x.1.as_ptr(), x.2.as_ptr(), o.as_mut_ptr())
-        ),
-        "lsp_to_lpc" => pair!(
-            lsp_to_lpc,
-            drawn(random, inputs::cosines),
-            |x| lsp_to_lpc(x),
-            [0f32; 11],
-            |x, o| g7231_lsp_to_lpc(x.as_ptr(), o.as_mut_ptr())
-        ),
-        "weighting_taps" => pair!(
-            weighting_taps,
-            drawn(random, inputs::filter),
-            |x| weighting_taps(x),
-            ([0f32; 10], [0f32; 10]),
-            |x, o| g7231_weighting_taps(x.as_ptr(), o.0.as_mut_ptr(), o.1.as_mut_ptr())
-        ),
-        "weight_subframe" => pair!(
-            weight_subframe,
-            drawn(random, |r| (speech(r, 60), inputs::taps(r))),
-            |x| weight_subframe(&x.0, &x.1 .0, &x.1 .1, &mut [0.5; 10], &mut [0.5; 10]),
-            ([0f32; 10], [0f32; 10], [0f32; 60]),
-            |x, o| {
-                (o.0, o.1) = ([0.5; 10], [0.5; 10]);
-                let (wz, wp) = &x.1;
-                g7231_weight_subframe(
-                    x.0.as_ptr(),
-                    x.0.len(),
-                    wz.as_ptr(),
-                    wp.as_ptr(),
-                    o.0.as_mut_ptr(),
-                    o.1.as_mut_ptr(),
-                    o.2.as_mut_ptr(),
-                )
-            }
-        ),
-        "open_loop_pitch" => pair!(
-            open_loop_pitch,
-            drawn(random, |r| (speech(r, 385), r.below(2))),
-            |x| open_loop_pitch(&x.0, x.1),
-            0u32,
-            |x, o| g7231_open_loop_pitch(x.0.as_ptr(), x.0.len(), x.1, o)
-        ),
-        "harmonic_noise_shaping" => pair!(
-            harmonic_noise_shaping,
-            drawn(random, |r| (
-                speech(r, 385),
-                145 + 60 * r.below(4),
-                18 + r.below(125) as u32
-            )),
-            |x| harmonic_noise_shaping(&x.0, x.1, x.2 as i32),
-            (0u32, 0f32),
-            |x, o| g7231_harmonic_noise_shaping(
-                x.0.as_ptr(),
-                x.0.len(),
-                x.1,
-                x.2,
-                &mut o.0,
-                &mut o.1
-            )
-        ),
-        "run_combined" => pair!(
-            run_combined,
-            drawn(random, |r| (
-                sixty(r),
-                inputs::filter(r),
-                inputs::taps(r),
-                18 + r.below(128) as u32
-            )),
-            |x| {
-                let memory = Memory {
-                    syn: [0.5; 10],
-                    wz: [0.5; 10],
-                    wp: [0.5; 10],
-                    p_hist: [0.5; 145],
-                };
-                run_combined(memory, &x.0, &x.1, &x.2 .0, &x.2 .1, x.3 as i32, 0.25)
-            },
-            (
-                ([0f32; 10], [0f32; 10], [0f32; 10], [0f32; 145]),
-                [0f32; 60]
-            ),
-            |x, o| {
-                o.0 = ([0.5; 10], [0.5; 10], [0.5; 10], [0.5; 145]);
-                let (syn, wz_mem, wp_mem, p_hist) = &mut o.0;
-                let (wz, wp) = &x.2;
-                g7231_run_combined(
-                    syn.as_mut_ptr(),
-                    wz_mem.as_mut_ptr(),
-                    wp_mem.as_mut_ptr(),
-                    p_hist.as_mut_ptr(),
-                    x.0.as_ptr(),
-                    x.1.as_ptr(),
-                    wz.as_ptr(),
-                    wp.as_ptr(),
-                    x.3,
-                    0.25,
-                    o.1.as_mut_ptr(),
-                )
-            }
-        ),
-        "combined_impulse_response" => pair!(
-            combined_impulse_response,
-            drawn(random, |r| (
-                inputs::filter(r),
-                inputs::taps(r),
-                18 + r.below(128) as u32
-            )),
-            |x| combined_impulse_response(&x.0, &x.1 .0, &x.1 .1, x.2 as i32, 0.25),
-            [0f32; 60],
-            |x, o| {
-                let (wz, wp) = &x.1;
-                g7231_combined_impulse_response(
-                    x.0.as_ptr(),
-                    wz.as_ptr(),
-                    wp.as_ptr(),
-                    x.2,
-                    0.25,
-                    o.as_mut_ptr(),
-                )
-            }
-        ),
-        _ => fail(&format!("no inputs for {name}")),
     }
 }

@@ -288,13 +288,8 @@ pub fn draw(operation: &Operation, random: &mut Random, turn: u64) -> Vec<u32> {
 
 const PI: f64 = std::f64::consts::PI;
 
-/// The resting set, where the Rust's tables are at hand; otherwise an even spread.
-pub fn resting() -> [f32; 10] {
-    #[cfg(rust)]
-    return crate::published::spec_lsp::lsp_dc_freq();
-    #[cfg(not(rust))]
-    return std::array::from_fn(|i| 3_000.0 * (i as f32 + 1.0));
-}
+/// The resting set.
+pub const RESTING: [f32; 10] = [3131.0, 4721.0, 7690.0, 10806.0, 13872.0, 16495.0, 19752.0, 22260.0, 25484.0, 27718.0];
 
 /// Ten frequencies that rise.
 pub fn ordered(random: &mut Random) -> [f32; 10] {
@@ -303,7 +298,7 @@ pub fn ordered(random: &mut Random) -> [f32; 10] {
     let mut set: [f64; 10] = if random.once_in(3) {
         std::array::from_fn(|_| random.between(0.0, 32_768.0))
     } else {
-        resting().map(|f| f as f64 + random.between(-spread, spread))
+        RESTING.map(|f| f as f64 + random.between(-spread, spread))
     };
     set.sort_by(f64::total_cmp);
     set.map(|f| if whole { f.round() as f32 } else { f as f32 })
@@ -313,7 +308,7 @@ pub fn ordered(random: &mut Random) -> [f32; 10] {
 pub fn decoded(random: &mut Random) -> [f32; 10] {
     #[cfg(rust)]
     {
-        let mut set = resting();
+        let mut set = RESTING;
         for _ in 0..random.below(4) {
             set = crate::published::spec_lsp::decode_lsp_freq(random.bits(), &set);
         }
@@ -545,7 +540,7 @@ pub fn quantise_lsp_freq(random: &mut Random) -> Parts {
 #[cfg(rust)]
 pub fn quantise_lsp_freq_special(random: &mut Random, turn: u64) -> Parts {
     use crate::spec_tables::LspBand;
-    let dc = resting();
+    let dc = RESTING;
     if turn % 4 == 0 {
         let prev = decoded(random);
         let p = crate::published::spec_lsp::decode_lsp_freq(random.bits(), &prev);
@@ -585,7 +580,7 @@ fn equally_far(
     rows: (&[i16], &[i16]),
 ) -> [f32; 10] {
     let (start, length) = band.start_and_length();
-    let dc = resting().map(f64::from);
+    let dc = RESTING.map(f64::from);
     let mut p = p.map(f64::from);
     let widest = (0..length).max_by_key(|j| (rows.0[*j] as i32 - rows.1[*j] as i32).abs()).unwrap_or(0);
     for j in 0..length {
@@ -641,7 +636,7 @@ pub fn decode_lsp_freq(random: &mut Random) -> Parts {
 /// Sets at the bound and a little beside the resting set.
 pub fn decode_lsp_freq_special(random: &mut Random, _: u64) -> Parts {
     let shift = *random.pick(&[0.0f32, 8.0, -8.0, 0.5, 16_384.0, -16_384.0]);
-    let mut prev = resting().map(|f| f + shift);
+    let mut prev = RESTING.map(|f| f + shift);
     if random.once_in(3) {
         prev = prev.map(|f| f + random.between(-1.0, 1.0) as f32);
     }

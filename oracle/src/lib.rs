@@ -2,16 +2,26 @@
 //!
 //! `rule` is document 01's cosine, step, angle and gate rules; `reference` adds its refusals to the Rust's functions;
 //! `operations` lists the fifteen operations with their inputs and answers as words; `inputs` draws the inputs;
-//! `doors` calls the library. build.rs cuts the Rust out of its source; where that is missing nothing is compared.
+//! `doors` calls the library and `trial` holds its answer to the Rust's; `runner` does so turn by turn on several
+//! threads, and `shrink` makes an input that shows a fault plain. build.rs cuts the Rust out of its source; where that
+//! is missing nothing is compared.
 
 pub mod args;
+pub mod distances;
 pub mod doors;
+pub mod given;
 pub mod inputs;
+pub mod line_coder;
 pub mod operations;
+pub mod progress;
 pub mod random;
 pub mod reference;
 pub mod rule;
+pub mod runner;
+pub mod shrink;
 pub mod sources;
+pub mod speech;
+pub mod trial;
 pub mod words;
 
 /// What build.rs found.

@@ -1,5 +1,6 @@
 //! The fifteen operations: what each takes and gives, its reference, its door and its inputs.
 
+use crate::distances::{self, Distances, Seen};
 use crate::doors::{self, Frame};
 use crate::found::LANDED;
 use crate::inputs::{self, Parts};
@@ -133,119 +134,6 @@ pub fn plain(gives: &[Field], words: &[u32]) -> Vec<u32> {
     all
 }
 
-/// An input with the library's answer and the published Rust's.
-pub struct Seen<'a> {
-    pub given: &'a [u32],
-    pub status: u32,
-    pub gave: &'a [u32],
-    pub published_status: u32,
-    pub published: &'a [u32],
-}
-
-/// A distance to the published Rust: the largest seen, and the input that showed it.
-pub struct Distance {
-    pub what: &'static str,
-    pub bound: Option<f64>,
-    pub largest: f64,
-    pub shown_by: Vec<u32>,
-}
-
-/// How often answers were another kind of answer than the published Rust's.
-pub struct Count {
-    pub what: &'static str,
-    pub times: u64,
-    pub shown_by: Vec<u32>,
-}
-
-#[derive(Default)]
-pub struct Distances {
-    pub largest: Vec<Distance>,
-    pub counts: Vec<Count>,
-}
-
-impl Distances {
-    pub fn seen(&mut self, what: &'static str, bound: Option<f64>, distance: f64, shown_by: &[u32]) {
-        let at = match self.largest.iter().position(|d| d.what == what) {
-            Some(at) => at,
-            None => {
-                self.largest.push(Distance { what, bound, largest: -1.0, shown_by: Vec::new() });
-                self.largest.len() - 1
-            }
-        };
-        let own = &mut self.largest[at];
-        // A NaN is as far as can be.
-        if distance > own.largest || distance.is_nan() {
-            own.largest = if distance.is_nan() { f64::INFINITY } else { distance };
-            own.shown_by = shown_by.to_vec();
-        }
-    }
-
-    pub fn count(&mut self, what: &'static str, when: bool, shown_by: &[u32]) {
-        let at = match self.counts.iter().position(|c| c.what == what) {
-            Some(at) => at,
-            None => {
-                self.counts.push(Count { what, times: 0, shown_by: Vec::new() });
-                self.counts.len() - 1
-            }
-        };
-        if when {
-            if self.counts[at].times == 0 {
-                self.counts[at].shown_by = shown_by.to_vec();
-            }
-            self.counts[at].times += 1;
-        }
-    }
-}
-
-fn apart(one: u32, other: u32) -> f64 {
-    (f32::from_bits(one) as f64 - f32::from_bits(other) as f64).abs()
-}
-
-fn freq_distance(seen: &Seen, distances: &mut Distances) {
-    if seen.status != 0 {
-        return;
-    }
-    for ((bits, gave), published) in seen.given.iter().zip(seen.gave).zip(seen.published) {
-        let inside = f32::from_bits(*bits).abs() <= 0.999;
-        let (what, bound) =
-            if inside { ("cosines in -0.999..0.999", Some(1.0 / 16.0)) } else { ("other cosines", None) };
-        distances.seen(what, bound, apart(*gave, *published), &[*bits]);
-    }
-}
-
-fn cosine_distance(seen: &Seen, distances: &mut Distances) {
-    if seen.status != 0 {
-        return;
-    }
-    for ((bits, gave), published) in seen.given.iter().zip(seen.gave).zip(seen.published) {
-        distances.seen("cosines", Some(1.0 / (1u32 << 19) as f64), apart(*gave, *published), &[*bits]);
-    }
-}
-
-fn root_distance(seen: &Seen, distances: &mut Distances) {
-    distances.count("one side has a line set and the other none", seen.status != seen.published_status, seen.given);
-    if seen.status == 0 && seen.published_status == 0 {
-        let far = seen.gave.iter().zip(seen.published).map(|(a, b)| apart(*a, *b)).fold(0.0, f64::max);
-        distances.seen("cosines", None, far, seen.given);
-    }
-}
-
-fn stability_distance(seen: &Seen, distances: &mut Distances) {
-    if seen.status != 0 {
-        return;
-    }
-    distances.count("one side converged and the other not", seen.gave[10] != seen.published[10], seen.given);
-    let far = seen.gave[..10].iter().zip(seen.published).map(|(a, b)| apart(*a, *b)).fold(0.0, f64::max);
-    let what = if seen.gave[10] == seen.published[10] { "cosines" } else { "cosines where one side converged" };
-    distances.seen(what, None, far, seen.given);
-}
-
-fn shaping_distance(seen: &Seen, distances: &mut Distances) {
-    if seen.status == 0 {
-        distances.count("one side shapes and the other not", seen.gave != seen.published, seen.given);
-    }
-}
-
 use Kind::{Doubles, Number, Samples, Single, Singles, Word};
 
 /// The fifteen, in document 01's order.
@@ -279,7 +167,7 @@ pub const OPERATIONS: [Operation; 15] = [
         door: |f| unsafe { doors::g7231_lpc_to_lsp(f.singles("a"), f.singles("lsp")) },
         realistic: inputs::lpc_to_lsp,
         special: inputs::lpc_to_lsp_special,
-        distance: Some(root_distance),
+        distance: Some(distances::root),
         stored: 300,
     },
     Operation {
@@ -291,7 +179,7 @@ pub const OPERATIONS: [Operation; 15] = [
         door: |f| unsafe { doors::g7231_lsp_cosines_to_freq(f.singles("cosines"), f.singles("freq")) },
         realistic: inputs::lsp_cosines_to_freq,
         special: inputs::lsp_cosines_to_freq_special,
-        distance: Some(freq_distance),
+        distance: Some(distances::freq),
         stored: 300,
     },
     Operation {
@@ -303,7 +191,7 @@ pub const OPERATIONS: [Operation; 15] = [
         door: |f| unsafe { doors::g7231_lsp_freq_to_cosines(f.singles("freq"), f.singles("cosines")) },
         realistic: inputs::lsp_freq_to_cosines,
         special: inputs::lsp_freq_to_cosines_special,
-        distance: Some(cosine_distance),
+        distance: Some(distances::cosine),
         stored: 300,
     },
     Operation {
@@ -348,7 +236,7 @@ pub const OPERATIONS: [Operation; 15] = [
         },
         realistic: inputs::enforce_lsp_stability,
         special: inputs::enforce_lsp_stability_special,
-        distance: Some(stability_distance),
+        distance: Some(distances::stability),
         stored: 300,
     },
     Operation {
@@ -449,7 +337,7 @@ pub const OPERATIONS: [Operation; 15] = [
         },
         realistic: inputs::harmonic_noise_shaping,
         special: inputs::harmonic_noise_shaping_special,
-        distance: Some(shaping_distance),
+        distance: Some(distances::shaping),
         stored: 80,
     },
     Operation {

@@ -1,13 +1,18 @@
 //! Compares the library with the Rust, operation by operation.
 
 use oracle::args::Args;
-use oracle::doors::Frame;
 use oracle::found::{LIBRARY, LIBRARY_PATH};
+use oracle::given::{self, hex, short};
 use oracle::inputs;
-use oracle::operations::{Distances, Kind, Operation, Seen, OPERATIONS};
+use oracle::operations::{Kind, Operation, OPERATIONS};
+use oracle::progress::Progress;
 use oracle::random::Random;
+use oracle::runner::{run, Plan, Tally};
+use oracle::shrink::shrink;
+use oracle::trial::{Judge, Trial};
 use oracle::words::Reader;
-use oracle::Both;
+use std::cell::Cell;
+use std::ops::Range;
 use std::process::exit;
 use std::time::{Duration, Instant};
 
@@ -17,9 +22,15 @@ differ: call every door of include/g7231.h and compare its answer with the Rust'
   --seed S       the seed of the inputs (1)
   --count N      calls for each function (20000)
   --minutes M    stop after M minutes, shared evenly between the functions, even if the count is not reached
-                 (without --count: only the time counts)
-  --only NAME    one function alone, as lsp_freq_to_cosines
+  --hours H      the same in hours (with a time and no --count: only the time counts)
+  --threads N    threads that share the calls (as many as there are cores)
+  --only NAMES   some functions alone, with commas between them, as lsp_to_lpc,lpc_to_lsp
   --turn T       one call alone: the turn that a difference names
+  --replay LINE  one input alone: a function's name and the words of its input, as a difference prints them;
+                 @FILE takes such lines from a file (empty lines and lines that open with # are passed over)
+  --progress     show progress on standard error even where that is no terminal
+  --plant        a check of differ itself: before it is compared, the last word of each answer that is no refusal is
+                 altered by one bit where two words of the input are below zero, read as singles
   --help         this text
 
 The limits come first, then random bits, speech-like values and damaged copies. Results are compared bit for bit with
@@ -27,32 +38,42 @@ the Rust in which each call of cos, acos and log10 is replaced by document 01's 
 refusal every lent buffer must be untouched. For functions that call cos, acos or log10 the largest distance to the
 published Rust is printed, with the input that showed it, and held to document 01's bounds.
 
+An input is fixed by seed, function and turn. The outcome of a seed and a count is the same on any number of threads.
+The run stops at the first difference, the one of the lowest turn, and prints it; then the plainest input found that
+still shows it, and the line that replays it.
+
 Variables, when oracle/ is built: G7231_RUST, the folder with src/encoder.rs; G7231_LIBRARY, the archive.
 Exit status: 0 no difference; 1 a difference, or a bound broken; 2 bad usage, or no library to call.
 ";
 
-/// How many differences of a function are printed whole.
-const SHOWN: u64 = 3;
+thread_local! {
+    /// The function and turn that a thread is at, for the message of a panic.
+    static AT: Cell<(&'static str, u64)> = const { Cell::new(("", 0)) };
+}
 
 fn main() {
     let mut args = Args::new(HELP);
     let seed = args.value("--seed").unwrap_or(1u64);
-    let minutes: Option<f64> = args.value("--minutes");
-    let count = args.value("--count").unwrap_or(if minutes.is_some() { u64::MAX } else { 20_000 });
+    let time = time(&mut args);
+    let count = args.value("--count").unwrap_or(if time.is_some() { u64::MAX } else { 20_000 });
+    let cores = std::thread::available_parallelism().map_or(1, |n| n.get());
+    let threads = args.value("--threads").unwrap_or(cores);
     let only: Option<String> = args.value("--only");
     let turn: Option<u64> = args.value("--turn");
-    let chosen: Vec<&Operation> =
-        OPERATIONS.iter().filter(|o| only.as_deref().is_none_or(|name| name == o.name)).collect();
-    if chosen.is_empty() {
-        args.fail(&format!("there is no function {}", only.unwrap_or_default()));
+    let replay: Option<String> = args.value("--replay");
+    let progress = args.flag("--progress");
+    let plant = args.flag("--plant");
+    let chosen = match &only {
+        Some(names) => names.split(',').map(named).collect::<Result<Vec<_>, _>>().unwrap_or_else(|why| args.fail(&why)),
+        None => OPERATIONS.iter().filter(|operation| operation.landed()).collect(),
+    };
+    if count == 0 || threads == 0 || threads > 1024 || turn == Some(u64::MAX) {
+        args.fail("a count is at least 1, threads are 1 to 1024, and turns end before the last machine word");
     }
-    if only.is_some() && !chosen[0].landed() {
-        args.fail(&format!("{} is not in include/g7231.h", chosen[0].name));
-    }
+    let lines = replay.map(|text| lines(&text).unwrap_or_else(|why| args.fail(&why)));
     args.end();
-    let landed: Vec<&Operation> = chosen.into_iter().filter(|o| o.landed()).collect();
-    let rust = match oracle::rust() {
-        Ok(rust) => rust,
+    let judge = match oracle::rust() {
+        Ok(rust) => Judge { rust, plant },
         Err(why) => {
             println!("not compared: {why}");
             return;
@@ -62,71 +83,199 @@ fn main() {
         eprintln!("there is no library at {LIBRARY_PATH}: make it with `rt staticlib c_api`, then build oracle/ again");
         exit(2);
     }
-    let share = minutes.map(|m| Duration::from_secs_f64(m * 60.0 / landed.len().max(1) as f64));
-    let mut good = true;
-    for operation in &landed {
-        let turns = match turn {
-            Some(turn) => turn..turn + 1,
-            None => 0..count,
-        };
-        good &= compare(operation, &rust, seed, turns, share);
+    if let Some(lines) = lines {
+        let good = lines.iter().filter(|(operation, given)| replayed(&judge, operation, given)).count();
+        println!("replayed: {good} of {} without a difference", lines.len());
+        exit(if good == lines.len() { 0 } else { 1 });
     }
-    println!("compared: {} of {}", landed.len(), OPERATIONS.len());
+    name_the_turn_of_a_panic(seed);
+    let turns = turn.map_or(0..count, |turn| turn..turn + 1);
+    let run = Run { judge, seed, turns, threads };
+    let mut progress = Progress::new(progress);
+    let ends = time.map(|time| Instant::now() + time);
+    let mut good = true;
+    for (done, operation) in chosen.iter().enumerate() {
+        // What is left of the time, shared evenly between the functions that are left.
+        let left = (chosen.len() - done) as u32;
+        let until = ends.map(|ends| Instant::now() + ends.saturating_duration_since(Instant::now()) / left);
+        match run.compare(operation, until, &mut progress) {
+            Outcome::Differs => {
+                println!("stopped at the first difference: compared {} of {}", done + 1, OPERATIONS.len());
+                exit(1);
+            }
+            Outcome::BeyondItsBound => good = false,
+            Outcome::Agrees => {}
+        }
+    }
+    println!("compared: {} of {}", chosen.len(), OPERATIONS.len());
     exit(if good { 0 } else { 1 });
 }
 
-/// Compares one operation over some turns; prints its line and whatever differs.
-fn compare(
-    operation: &Operation,
-    rust: &Both,
-    seed: u64,
-    turns: std::ops::Range<u64>,
-    share: Option<Duration>,
-) -> bool {
-    let began = Instant::now();
-    let (mut calls, mut refused, mut differences) = (0u64, 0u64, 0u64);
-    let mut distances = Distances::default();
-    for turn in turns {
-        if calls % 64 == 0 && share.is_some_and(|share| began.elapsed() >= share) {
-            break;
+/// How long to run, if that is given.
+fn time(args: &mut Args) -> Option<Duration> {
+    let given = [("--minutes", 60.0), ("--hours", 3600.0)].map(|(name, unit)| Some(args.value::<f64>(name)? * unit));
+    let seconds = match given {
+        [None, None] => return None,
+        [Some(seconds), None] | [None, Some(seconds)] => seconds,
+        _ => args.fail("--minutes or --hours, and not both"),
+    };
+    match Duration::try_from_secs_f64(seconds) {
+        // Ten years are enough, and an instant that far away can still be named.
+        Ok(time) if !time.is_zero() && seconds < 3.2e8 => Some(time),
+        _ => args.fail("a time is more than nothing, and at most ten years"),
+    }
+}
+
+/// The inputs to replay: one line, or those of a file.
+fn lines(text: &str) -> Result<Vec<(&'static Operation, Vec<u32>)>, String> {
+    let Some(path) = text.strip_prefix('@') else { return Ok(vec![input(text)?]) };
+    let whole = std::fs::read_to_string(path).map_err(|why| format!("{path}: {why}"))?;
+    let own = |(_, line): &(usize, &str)| !line.trim().is_empty() && !line.starts_with('#');
+    let numbered = whole.lines().enumerate().filter(own);
+    let all: Vec<_> = numbered
+        .map(|(i, line)| input(line).map_err(|why| format!("{path}, line {}: {why}", i + 1)))
+        .collect::<Result<_, _>>()?;
+    if all.is_empty() {
+        return Err(format!("{path}: no line"));
+    }
+    Ok(all)
+}
+
+fn input(line: &str) -> Result<(&'static Operation, Vec<u32>), String> {
+    let (operation, given) = given::parse(line)?;
+    Ok((named(operation.name)?, given))
+}
+
+/// The function of a name, where it has a door.
+fn named(name: &str) -> Result<&'static Operation, String> {
+    match OPERATIONS.iter().find(|operation| operation.name == name) {
+        None => Err(format!("there is no function {name}")),
+        Some(operation) if !operation.landed() => Err(format!("{name} is not in include/g7231.h")),
+        Some(operation) => Ok(operation),
+    }
+}
+
+/// Runs one input and prints it with both answers.
+fn replayed(judge: &Judge, operation: &Operation, given: &[u32]) -> bool {
+    let trial = judge.replay(operation, given);
+    println!("{}: {}", operation.name, trial.fault.as_deref().unwrap_or("no difference"));
+    show(operation, given, &trial);
+    trial.fault.is_none()
+}
+
+/// A panic of the Rust's ends the program: the message says where it was.
+fn name_the_turn_of_a_panic(seed: u64) {
+    let usual = std::panic::take_hook();
+    std::panic::set_hook(Box::new(move |info| {
+        usual(info);
+        let (name, turn) = AT.get();
+        if !name.is_empty() {
+            eprintln!("it was at: differ --only {name} --seed {seed} --turn {turn}");
         }
-        calls += 1;
-        let mut random = Random::new(seed, operation.number, turn);
+    }));
+}
+
+enum Outcome {
+    Agrees,
+    BeyondItsBound,
+    Differs,
+}
+
+struct Run {
+    judge: Judge,
+    seed: u64,
+    turns: Range<u64>,
+    threads: usize,
+}
+
+impl Run {
+    /// The input of a turn, and the numbers that follow it.
+    fn draw(&self, operation: &Operation, turn: u64) -> (Vec<u32>, Random) {
+        let mut random = Random::new(self.seed, operation.number, turn);
         let given = inputs::draw(operation, &mut random, turn);
-        let (wanted_status, wanted) = operation.whole_answer(&rust.ruled, &given);
-        let mut frame = Frame::new(operation, &given, &mut random);
-        let status = (operation.door)(&mut frame);
-        let gave = frame.gave(operation);
-        let fault = if status != wanted_status {
-            Some(format!("status {status} and not {wanted_status}"))
-        } else if let Some(trespass) = frame.trespass(operation, status != 0) {
-            Some(trespass)
-        } else if status == 0 && !operation.same(&gave, &wanted) {
-            Some("other results".to_string())
-        } else {
-            None
-        };
-        refused += u64::from(wanted_status != 0);
-        if let Some(fault) = fault {
-            differences += 1;
-            if differences <= SHOWN {
-                show(operation, seed, turn, &fault, &given, &gave, &wanted);
+        (given, random)
+    }
+
+    /// Compares one operation over the turns; prints its line, after the difference if there is one.
+    fn compare(&self, operation: &'static Operation, until: Option<Instant>, progress: &mut Progress) -> Outcome {
+        let began = Instant::now();
+        let plan = Plan { turns: self.turns.clone(), until, threads: self.threads };
+        let one = |turn, tally: &mut Tally| {
+            AT.set((operation.name, turn));
+            let (given, mut random) = self.draw(operation, turn);
+            let trial = self.judge.call(operation, &given, &mut random);
+            tally.refused += u64::from(trial.wanted_status != 0);
+            match trial.fault {
+                Some(_) => tally.fault = Some(turn),
+                None => self.judge.measure(operation, &given, &trial, &mut tally.distances),
             }
-        } else if let Some(distance) = operation.distance {
-            let (published_status, published) = operation.whole_answer(&rust.published, &given);
-            distance(
-                &Seen { given: &given, status, gave: &gave, published_status, published: &published },
-                &mut distances,
-            );
+        };
+        let tally = run(&plan, &one, |tally| progress.show(|| shown(operation, &plan, tally, began)));
+        progress.clear();
+        if let Some(turn) = tally.fault {
+            self.explain(operation, turn);
+        }
+        let (line, within) = line(operation, self.seed, &tally, began);
+        println!("{line}");
+        match (tally.fault, within) {
+            (Some(_), _) => Outcome::Differs,
+            (None, false) => Outcome::BeyondItsBound,
+            (None, true) => Outcome::Agrees,
         }
     }
-    let mut good = differences == 0;
-    let mut line = format!(
-        "{:<25} seed {seed}, {calls} calls ({refused} refused), {differences} differences, {:.1} s",
+
+    /// Prints a difference, and the plainest input that shows it.
+    fn explain(&self, operation: &Operation, turn: u64) {
+        let (given, mut random) = self.draw(operation, turn);
+        let trial = self.judge.call(operation, &given, &mut random);
+        let Some(fault) = &trial.fault else {
+            println!("{}: a difference that did not show again (seed {}, turn {turn})", operation.name, self.seed);
+            return;
+        };
+        println!("{}: {fault} (seed {}, turn {turn})", operation.name, self.seed);
+        show(operation, &given, &trial);
+        let differ = if self.judge.plant { "differ --plant" } else { "differ" };
+        let again = format!("{differ} --only {} --seed {} --turn {turn}", operation.name, self.seed);
+        let mut faulty = |given: &[u32]| self.judge.replay(operation, given).fault.as_ref() == Some(fault);
+        if !faulty(&given) {
+            println!("its input alone does not show it; again: {again}");
+            return;
+        }
+        let smallest = shrink(operation, &given, &mut faulty);
+        println!("{}: {fault}, the plainest input of {} tried", operation.name, smallest.trials);
+        show(operation, &smallest.given, &self.judge.replay(operation, &smallest.given));
+        println!("again: {again}");
+        println!("replay: {differ} --replay \"{}\"", given::line(operation, &smallest.given));
+    }
+}
+
+/// Progress: the function, the calls done, their share and their rate.
+fn shown(operation: &Operation, plan: &Plan, tally: &Tally, began: Instant) -> String {
+    let seconds = began.elapsed().as_secs_f64();
+    let counted = tally.calls as f64 / (plan.turns.end - plan.turns.start) as f64;
+    let timed = plan.until.map(|until| seconds / (until - began).as_secs_f64().max(1e-9));
+    let share = timed.map_or(counted, |timed| timed.max(counted)).min(1.0);
+    format!(
+        "{}: {} calls, {:.0}%, {:.0} a second",
         operation.name,
+        tally.calls,
+        100.0 * share,
+        tally.calls as f64 / seconds
+    )
+}
+
+/// An operation's line, and whether every distance is within its bound.
+fn line(operation: &Operation, seed: u64, tally: &Tally, began: Instant) -> (String, bool) {
+    let mut within = true;
+    let mut line = format!(
+        "{:<25} seed {seed}, {} calls ({} refused), {} differences, {:.1} s",
+        operation.name,
+        tally.calls,
+        tally.refused,
+        u64::from(tally.fault.is_some()),
         began.elapsed().as_secs_f64()
     );
-    for distance in &distances.largest {
+    for distance in &tally.distances.largest {
         line += &format!(
             "; {} at most {:.3e} from the published Rust at {}",
             distance.what,
@@ -134,38 +283,36 @@ fn compare(
             hex(&distance.shown_by)
         );
         if let Some(bound) = distance.bound {
-            let within = distance.largest <= bound;
-            good &= within;
-            line += &format!(" ({} {bound:.3e})", if within { "bound" } else { "BEYOND ITS BOUND" });
+            within &= distance.largest <= bound;
+            line += &format!(" ({} {bound:.3e})", if distance.largest <= bound { "bound" } else { "BEYOND ITS BOUND" });
         }
     }
-    for count in &distances.counts {
+    for count in &tally.distances.counts {
         line += &format!("; {}: {} times", count.what, count.times);
         if count.times > 0 {
             line += &format!(", first at {}", hex(&count.shown_by));
         }
     }
-    println!("{line}");
-    good
+    (line, within)
 }
 
-fn hex(words: &[u32]) -> String {
-    words.iter().map(|word| format!("{word:08x}")).collect::<Vec<_>>().join(" ")
-}
-
-/// Prints an input, what the door gave and what was wanted, field by field, as bits.
-fn show(operation: &Operation, seed: u64, turn: u64, fault: &str, given: &[u32], gave: &[u32], wanted: &[u32]) {
-    println!("{}: {fault} (seed {seed}, turn {turn})", operation.name);
+/// Prints an input, what the door gave and what was wanted, field by field, as bits; of a refusal the status alone.
+fn show(operation: &Operation, given: &[u32], trial: &Trial) {
     for field in operation.takes {
         let words = operation.part(given, field.name).unwrap_or(&[]);
         let length =
             if matches!(field.kind, Kind::Samples) { format!(" ({} samples)", words.len()) } else { String::new() };
-        println!("  given  {}{length}: {}", field.name, hex(words));
+        println!("  given  {}{length}: {}", field.name, short(words));
     }
-    for (what, words) in [("gave  ", gave), ("wanted", wanted)] {
+    let answers = [("gave  ", trial.status, &trial.gave), ("wanted", trial.wanted_status, &trial.wanted)];
+    for (what, status, words) in answers {
+        println!("  {what} status: {status}");
+        if status != 0 {
+            continue;
+        }
         let mut reader = Reader::new(words);
         for field in operation.gives {
-            println!("  {what} {}: {}", field.name, hex(reader.words(field.kind.words())));
+            println!("  {what} {}: {}", field.name, short(reader.words(field.kind.words())));
         }
     }
 }

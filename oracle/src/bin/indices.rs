@@ -2,6 +2,7 @@
 
 use oracle::args::{fail, Args};
 use oracle::doors;
+use oracle::inputs::RESTING;
 
 const HELP: &str = "\
 indices: decode all 16,777,216 indices from the resting set and compare each set with the Rust's, bit for bit
@@ -10,9 +11,6 @@ indices: decode all 16,777,216 indices from the resting set and compare each set
 
 Exit status: 0 all agree, or there is nothing to compare (it then prints `not compared`); 1 one differs; 2 bad usage.
 ";
-
-/// The resting set.
-const DC: [f32; 10] = [3131.0, 4721.0, 7690.0, 10806.0, 13872.0, 16495.0, 19752.0, 22260.0, 25484.0, 27718.0];
 
 fn main() {
     Args::new(HELP).end();
@@ -24,9 +22,9 @@ fn main() {
         }
     };
     for index in 0..1u32 << 24 {
-        let want = (rust.decode_lsp_freq)(index, &DC);
+        let want = (rust.decode_lsp_freq)(index, &RESTING);
         let mut set = [0.0f32; 10];
-        let status = unsafe { doors::g7231_decode_lsp_freq(index, DC.as_ptr(), set.as_mut_ptr()) };
+        let status = unsafe { doors::g7231_decode_lsp_freq(index, RESTING.as_ptr(), set.as_mut_ptr()) };
         if status != 0 || set.map(f32::to_bits) != want.map(f32::to_bits) {
             fail(&format!("index {index}: status {status}, {set:?}, and the Rust's set is {want:?}"));
         }
