@@ -208,7 +208,8 @@ fn given_finite(input: [f32; 60], aq: [f32; 11], wz: [f32; 10], wp: [f32; 10], b
     float::all_finite(&input) & (float::all_finite(&aq) & taps)
 }
 
-// One subframe through the filter. The memory comes back; on a refusal it is as given.
+// One subframe through the filter. The memory comes back; on a refusal it is as given. The floats are tested after the filter has run and before anything
+// is answered, as in `weighting::weight_subframe`, while its last sums come in.
 pub fn run_combined(
     mem: CombinedMem,
     input: [f32; 60],
@@ -226,13 +227,14 @@ pub fn run_combined(
     if lag > 145 {
         return refused(4, mem);
     }
+    let after = run(mem, input, aq, wz, wp, lag, beta);
     let held = memory_finite(mem);
     let given = given_finite(input, aq, wz, wp, beta);
     let finite = held & given;
     if !finite {
         return refused(5, mem);
     }
-    run(mem, input, aq, wz, wp, lag, beta)
+    after
 }
 
 // One subframe through the filter, whose memory is lent. It is altered only where nothing is refused.

@@ -58,6 +58,8 @@ run-combined-spec =
     (λ c κs. search needs)
     -- returns-2
     (λ c. high _ _ _ _ (c .before .before .if1 .left) (c .before .if2 .taken) (c .refused2 .ensures))
+    -- run-requires
+    (λ c κs. search needs)
     -- memory-finite-requires
     (λ c κs. search needs)
     -- given-finite-requires
@@ -65,8 +67,6 @@ run-combined-spec =
     -- refused-requires-3
     (λ c κs. search needs)
     -- returns-3
-    (λ c. bad _ _ _ _ _ _ (c .before .before .before .before .before .if1 .left) (c .before .before .before .before .if2 .left) (c .before .before .before .memory-finite .ensures) (c .before .before .given-finite .ensures) (not-true _ (c .before .if3 .taken)) (c .refused3 .ensures))
-    -- run-requires
-    (λ c κs. search needs)
+    (λ c. bad _ _ _ _ _ _ (c .before .before .before .before .before .before .if1 .left) (c .before .before .before .before .before .if2 .left) (c .before .before .before .memory-finite .ensures) (c .before .before .given-finite .ensures) (not-true _ (c .before .if3 .taken)) (c .refused3 .ensures))
     -- returns-4
-    (λ c. good _ _ _ _ _ _ (c .before .before .before .before .before .if1 .left) (c .before .before .before .before .if2 .left) (c .before .before .before .memory-finite .ensures) (c .before .before .given-finite .ensures) (not-false _ (c .before .if3 .left)) (c .run .ensures)))
+    (λ c. good _ _ _ _ _ _ (c .before .before .before .before .before .if1 .left) (c .before .before .before .before .if2 .left) (c .before .before .memory-finite .ensures) (c .before .given-finite .ensures) (not-false _ (c .if3 .left)) (c .before .before .before .run .ensures)))
