@@ -1,15 +1,15 @@
 // Doors for C and Rust, one for each operation, as include/g7231.h declares them. A door returns the operation's status.
 // A refused call leaves every lent buffer as it was.
 ghost use mathlib.Core.Path.{_≡_};
-ghost use Rattle.spec_lsp.specs.Convert.{freqToCosines, cosinesToFreq};
+ghost use Rattle.convert.specs.Convert.{freqToCosines, cosinesToFreq};
 ghost use Rattle.lpc.specs.Analysis.{lpcAnalysis};
 ghost use Rattle.stability.specs.Stability.{enforced};
 ghost use Rattle.weighting.specs.Taps.{weightingTaps};
 ghost use Rattle.weighting.specs.Filter.{weightSubframe};
 ghost use Rattle.pitch.specs.Pitch.{openLoopPitch};
 ghost use Rattle.pitch.specs.Shaping.{harmonicNoiseShaping};
-ghost use Rattle.lsp.specs.Interpolate.{interpolateLsp};
-ghost use Rattle.lsp.specs.Polynomial.{lspToLpc};
+ghost use Rattle.lsp_filter.specs.Interpolate.{interpolateLsp};
+ghost use Rattle.lsp_filter.specs.Polynomial.{lspToLpc};
 ghost use Rattle.lsp.specs.Pairs.{lpcToLsp};
 ghost use Rattle.spec_tables.specs.Codebook.{lspRows};
 ghost use Rattle.spec_lsp.specs.Quantise.{quantiseLspFreq};
@@ -25,7 +25,7 @@ pub extern "C" fn g7231_lsp_cosines_to_freq(cosines: &[f32; 10], freq: &mut [f32
     ensures buffer { λ r. ⌜ now (freq .exit) ≡ lent r (now (freq .entry)) (cosinesToFreq (now (cosines .entry)) .lines) ⌝ }
 {
     let given = *cosines;
-    let answer = spec_lsp::lsp_cosines_to_freq(given);
+    let answer = convert::lsp_cosines_to_freq(given);
     let status = answer.status;
     if status == 0 {
         let lines = answer.lines;
@@ -40,7 +40,7 @@ pub extern "C" fn g7231_lsp_freq_to_cosines(freq: &[f32; 10], cosines: &mut [f32
     ensures buffer { λ r. ⌜ now (cosines .exit) ≡ lent r (now (cosines .entry)) (freqToCosines (now (freq .entry)) .lines) ⌝ }
 {
     let given = *freq;
-    let answer = spec_lsp::lsp_freq_to_cosines(given);
+    let answer = convert::lsp_freq_to_cosines(given);
     let status = answer.status;
     if status == 0 {
         let lines = answer.lines;
@@ -185,7 +185,7 @@ pub extern "C" fn g7231_interpolate_lsp(
 {
     let last = *prev;
     let this = *cur;
-    let answer = lsp::interpolate_lsp(choice, last, this);
+    let answer = lsp_filter::interpolate_lsp(choice, last, this);
     let status = answer.status;
     if status == 0 {
         let lines = answer.lsp;
@@ -200,7 +200,7 @@ pub extern "C" fn g7231_lsp_to_lpc(lsp: &[f32; 10], a: &mut [f32; 11]) -> u32
     ensures coefficients { λ r. ⌜ now (a .exit) ≡ lent r (now (a .entry)) (lspToLpc (now (lsp .entry)) .a) ⌝ }
 {
     let given = *lsp;
-    let answer = lsp::lsp_to_lpc(given);
+    let answer = lsp_filter::lsp_to_lpc(given);
     let status = answer.status;
     if status == 0 {
         let coefficients = answer.a;

@@ -17,8 +17,8 @@ use Rattle.row_search.specs.Error.{squared, term, rowError}
 use Rattle.row_search.specs.Search.{better, among}
 use Rattle.spec_lsp.specs.Decode.{predicted, rebuilt, bandRow, rowNumbers, decoded, decodeLspFreq}
 use Rattle.spec_lsp.specs.Quantise.{smaller, larger, nearest, weightOf, weights, target, chosen, indexOf, quantiseBy, quantiseLspFreq}
-use Rattle.lsp.specs.Interpolate.{previousWeight, currentWeight, weighed, interpolateLsp}
-use Rattle.lsp.specs.Polynomial.{coefficient, quadratic, side, plusFactor, minusFactor, halfSum, lspToLpc}
+use Rattle.lsp_filter.specs.Interpolate.{previousWeight, currentWeight, weighed, interpolateLsp}
+use Rattle.lsp_filter.specs.Polynomial.{coefficient, quadratic, side, plusFactor, minusFactor, halfSum, lspToLpc}
 use Rattle.pitch.specs.Gate.{gate, atMostOne, passes}
 use Rattle.lpc.specs.Correlation.{windowed, lagged, correlation, lagWeight, corrected, sums}
 use Rattle.lpc.specs.Analysis.{trivial, setOf, lpcAnalysis}

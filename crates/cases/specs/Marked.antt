@@ -17,8 +17,8 @@ use Rattle.row_search.specs.Error.{number}
 use Rattle.spec_lsp.specs.Index.{split}
 use Rattle.spec_lsp.specs.Decode.{decodeLspFreq}
 use Rattle.spec_lsp.specs.Quantise.{quantiseLspFreq}
-use Rattle.lsp.specs.Interpolate.{interpolateLsp}
-use Rattle.lsp.specs.Polynomial.{lspToLpc}
+use Rattle.lsp_filter.specs.Interpolate.{interpolateLsp}
+use Rattle.lsp_filter.specs.Polynomial.{lspToLpc}
 use Rattle.pitch.specs.Gate.{passes}
 use Rattle.lpc.specs.Analysis.{lpcAnalysis}
 

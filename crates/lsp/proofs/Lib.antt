@@ -1,5 +1,4 @@
 -- Laws behind the functions' proofs, and those that callers cite.
-mod InPlace
 mod Series
 mod Turns
 mod Halvings

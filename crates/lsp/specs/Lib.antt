@@ -1,7 +1,5 @@
--- Line spectral pairs and the coefficients of the prediction filter. One notion a file.
+-- The line spectral pairs of a prediction filter. One notion a file.
 pub mod Answer
-pub mod Interpolate
-pub mod Polynomial
 pub mod Chebyshev
 pub mod Root
 pub mod Pairs

@@ -103,7 +103,7 @@ fn lpc_to_lsp(words: &[u32; 512]) -> bool {
 fn lsp_cosines_to_freq(words: &[u32; 512]) -> bool {
     let mut cosines = [0.0f32; 10];
     load(words, 1, &mut cosines);
-    let answer = spec_lsp::lsp_cosines_to_freq(cosines);
+    let answer = convert::lsp_cosines_to_freq(cosines);
     let freq = answer.lines;
     let same = matches(&freq, words, 12);
     (answer.status == words[11]) & same
@@ -112,7 +112,7 @@ fn lsp_cosines_to_freq(words: &[u32; 512]) -> bool {
 fn lsp_freq_to_cosines(words: &[u32; 512]) -> bool {
     let mut freq = [0.0f32; 10];
     load(words, 1, &mut freq);
-    let answer = spec_lsp::lsp_freq_to_cosines(freq);
+    let answer = convert::lsp_freq_to_cosines(freq);
     let cosines = answer.lines;
     let same = matches(&cosines, words, 12);
     (answer.status == words[11]) & same
@@ -154,7 +154,7 @@ fn interpolate_lsp(words: &[u32; 512]) -> bool {
     load(words, 3, &mut prev);
     load(words, 13, &mut cur);
     let choice = wide(words[1], words[2]) as usize;
-    let answer = lsp::interpolate_lsp(choice, prev, cur);
+    let answer = lsp_filter::interpolate_lsp(choice, prev, cur);
     let lines = answer.lsp;
     let same = matches(&lines, words, 24);
     (answer.status == words[23]) & same
@@ -163,7 +163,7 @@ fn interpolate_lsp(words: &[u32; 512]) -> bool {
 fn lsp_to_lpc(words: &[u32; 512]) -> bool {
     let mut lines = [0.0f32; 10];
     load(words, 1, &mut lines);
-    let answer = lsp::lsp_to_lpc(lines);
+    let answer = lsp_filter::lsp_to_lpc(lines);
     let a = answer.a;
     let same = matches(&a, words, 12);
     (answer.status == words[11]) & same

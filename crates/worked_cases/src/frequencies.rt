@@ -10,7 +10,7 @@ pub fn takes_step_below() -> bool {
 pub fn taken(frequency: f32) -> bool {
     let mut freq = [0.0f32; 10];
     freq[9] = frequency;
-    let answer = spec_lsp::lsp_freq_to_cosines(freq);
+    let answer = convert::lsp_freq_to_cosines(freq);
     let cosines = answer.lines;
     (answer.status == 0) & float::same_bits(cosines[9], 0x3f80_0000)
 }
@@ -19,7 +19,7 @@ pub fn taken(frequency: f32) -> bool {
 pub fn refused(frequency: f32) -> bool {
     let mut freq = [0.0f32; 10];
     freq[9] = frequency;
-    let answer = spec_lsp::lsp_freq_to_cosines(freq);
+    let answer = convert::lsp_freq_to_cosines(freq);
     let cosines = answer.lines;
     (answer.status == 6) & float::same_bits(cosines[0], 0)
 }

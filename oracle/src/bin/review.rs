@@ -7,7 +7,7 @@ use std::fs;
 use std::path::{Path, PathBuf};
 
 const HELP: &str = "\
-review: check that every file, theorem, edit and test that docs/REVIEW.md names exists
+review: check that every file, theorem, edit and test that docs/REVIEW.md names exists, and those that the other pages name
 
   --file PATH        the page (docs/REVIEW.md of the repository around this folder)
   --sentences PATH   document 01 numbered by sentence (../shared/01-sentences.md beside the repository, if it is there)
@@ -18,6 +18,8 @@ A name in backquotes with a slash and no space is a path from the top of the rep
 `crates/cosine/specs/Cosine.antt#cosine`. Each path must exist, and each name must stand in its file outside comments.
 Under each letter the numbers run from 1 with none missing and none twice. Where the numbered sentences are at hand, each
 row's words must open its sentence, and every sentence must have a row.
+The other pages of docs/ and README.md are held to their paths and names too, but for what a build or a checkout makes
+(target/, oracle/target/, ../).
 Exit status: 0 all is there; 1 something is missing; 2 bad usage.
 ";
 
@@ -25,10 +27,10 @@ fn main() {
     let mut args = Args::new(HELP);
     let top = sources::top().unwrap_or_else(|why| fail(&why));
     let file = args.value("--file").unwrap_or_else(|| top.join("docs/REVIEW.md"));
-    let named: Option<PathBuf> = args.value("--sentences");
+    let given: Option<PathBuf> = args.value("--sentences");
     args.end();
     let default = top.join("../shared/01-sentences.md");
-    let sentences = match named {
+    let sentences = match given {
         Some(path) => Some(read(&path)),
         None if default.is_file() => Some(read(&default)),
         None => None,
@@ -42,7 +44,7 @@ fn main() {
             faults += 1;
         };
         let before = names;
-        for name in line.split('`').skip(1).step_by(2).filter(|name| name.contains('/') && !name.contains(' ')) {
+        for name in named(line) {
             names += 1;
             if let Err(what) = exists(&top, name) {
                 wrong(what);
@@ -76,9 +78,39 @@ fn main() {
         None => String::new(),
     };
     println!("{rows} rows ({bare} without a path), {names} names{held}: {faults} faults");
+    faults += other_pages(&top, &file);
     if faults > 0 {
-        fail("docs/REVIEW.md names what is not there");
+        fail("a page names what is not there");
     }
+}
+
+/// Checks the names on README.md and on the pages of docs/ but one; answers how many are not there.
+fn other_pages(top: &Path, but: &Path) -> u32 {
+    let mut pages = vec![top.join("README.md")];
+    let listed = fs::read_dir(top.join("docs")).unwrap_or_else(|e| fail(&format!("docs: {e}")));
+    pages.extend(listed.filter_map(|entry| Some(entry.ok()?.path())));
+    pages.retain(|page| page != but && page.extension().is_some_and(|e| e == "md"));
+    pages.sort();
+    let (mut faults, mut names) = (0, 0);
+    for page in &pages {
+        for (i, line) in read(page).lines().enumerate() {
+            let made = |name: &str| ["target/", "oracle/target/", "../"].iter().any(|start| name.starts_with(start));
+            for name in named(line).filter(|name| !made(name)) {
+                names += 1;
+                if let Err(what) = exists(top, name) {
+                    println!("{}:{}: {what}", page.display(), i + 1);
+                    faults += 1;
+                }
+            }
+        }
+    }
+    println!("{names} names on {} other pages: {faults} faults", pages.len());
+    faults
+}
+
+/// The names in backquotes that are paths.
+fn named(line: &str) -> impl Iterator<Item = &str> {
+    line.split('`').skip(1).step_by(2).filter(|name| name.contains('/') && !name.contains(' '))
 }
 
 fn read(path: &Path) -> String {

@@ -1,7 +1,7 @@
 -- `c_api::g7231_lsp_cosines_to_freq` meets its contract. Assumes nothing.
 use borrow.Author.Needs.{needs}
 use mathlib.Core.Path.{ap}
-use Rattle.spec_lsp.specs.declared.Converted.{Converted}
+use Rattle.convert.specs.declared.Converted.{Converted}
 use Rattle.c_api.proofs.Lent.{stored, kept}
 use Rattle.c_api.proofs.g7231_lsp_cosines_to_freq.Statement.{statement}
 use Rattle.c_api.proofs.g7231_lsp_cosines_to_freq.Tie as tie

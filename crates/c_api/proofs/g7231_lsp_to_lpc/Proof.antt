@@ -1,7 +1,7 @@
 -- `c_api::g7231_lsp_to_lpc` meets its contract. Assumes nothing.
 use borrow.Author.Needs.{needs}
 use mathlib.Core.Path.{ap}
-use Rattle.lsp.specs.declared.LpcCoefficients.{LpcCoefficients}
+use Rattle.lsp_filter.specs.declared.LpcCoefficients.{LpcCoefficients}
 use Rattle.c_api.proofs.Lent.{stored, kept}
 use Rattle.c_api.proofs.g7231_lsp_to_lpc.Statement.{statement}
 use Rattle.c_api.proofs.g7231_lsp_to_lpc.Tie as tie

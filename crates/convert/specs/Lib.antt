@@ -1,0 +1,2 @@
+-- Both conversions of a line set.
+pub mod Convert
