@@ -4,9 +4,9 @@
  * A refused call leaves every buffer that it was lent as it was, bit for bit.
  * Checks are made in the order in which a function's refusals are listed.
  * Buffers have the lengths written here, may not overlap and may not be null,
- * but for this: a buffer that is only read (const) may start where another
- * starts, as in g7231_lsp_freq_to_cosines(x, x), since a door has made its whole
- * answer before it writes. The proofs take buffers apart; tests show this.
+ * but for this: a buffer that is only read (const) may start where another one
+ * starts, since a door has made its whole answer before it writes. The proofs
+ * take buffers apart; that this holds is tested.
  * The calling thread's floating-point mode must be IEEE's default: round to
  * nearest, no flushing of subnormals, exceptions masked. Where that is not sure,
  * call the guarded forms at the end of this file.
