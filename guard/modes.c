@@ -162,8 +162,8 @@ static int faults = 0;
 
 static void fault(const struct mode *mode, int number, uint64_t turn, const char *what)
 {
-    printf("FAILED: %s, %s, input %llu: %s\n", mode->name, doors[number].name, (unsigned long long)turn, what);
-    faults++;
+    if (faults++ < 20)
+        printf("\nFAILED: %s, %s, input %llu: %s\n", mode->name, doors[number].name, (unsigned long long)turn, what);
 }
 
 /* How many of the inputs show a mode through the bare door; the guarded one is held to the default mode's bits. */
@@ -220,13 +220,15 @@ static int run(uint64_t turns, uint64_t stops)
         printf("FAILED: %s\n", by_mode[m] ? "it is the mode of the answers" : "so this test shows nothing");
         faults++;
     }
-    if (faults == 0) printf("every guarded door kept its bits and the host's mode word in every mode\n");
+    if (faults) printf("%d failures\n", faults);
+    else printf("every guarded door kept its bits and the host's mode word in every mode\n");
     return faults ? 1 : 0;
 }
 
 /* ---- what the guard costs */
 
-enum { BATCHES = 301 };
+/* The flag is set in any host that has computed something. */
+enum { BATCHES = 301, INEXACT = 0x20 };
 
 static double now(void)
 {
@@ -285,7 +287,7 @@ static int cost(const char *counts)
         for (int batch = 0; batch < BATCHES; batch++) {
             for (int s = 0; s < 3; s++) {
                 began = now();
-                _mm_setcsr(s == 2 ? 0x9fc0 : DEFAULT);
+                _mm_setcsr((s == 2 ? 0x9fc0 : DEFAULT) | INEXACT);
                 for (int n = 0; n < calls; n++) side[s](argument);
                 _mm_setcsr(DEFAULT);
                 time[s][batch] = (now() - began) / calls;
