@@ -11,9 +11,10 @@
 #define DEFAULT_MODE 0x1f80u
 #define FLAGS 0x3fu
 
-/* The word is written only where that changes something, since a write is dear (guard/run --cost). A flag that is set
- * while its exception is masked alters no answer, so the default mode with flags is as good. What the host had is put
- * back whole, flags included; a flag set together with its mask cleared stops nothing, only an operation does. */
+/* The word is written only where that changes something: a write can cost more than a small door (guard/run --cost). A
+ * flag that is set while its exception is masked alters no answer, so the default mode with flags is as good. What the
+ * host had is put back whole, flags included; a flag set together with its mask cleared stops nothing, only an operation
+ * does. */
 #define GUARDED(name, parameters, arguments)                           \
     uint32_t g7231_guarded_##name parameters                           \
     {                                                                  \
