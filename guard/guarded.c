@@ -7,22 +7,21 @@
 
 #include "g7231.h"
 
-/* Round to nearest, subnormals kept, every exception masked; no flag is set. */
+/* Round to nearest, subnormals kept, every exception masked. */
 #define DEFAULT_MODE 0x1f80u
 #define FLAGS 0x3fu
 
-/* The word is written only where that changes something: a write can cost more than a small door (guard/run --cost). A
- * flag that is set while its exception is masked alters no answer, so the default mode with flags is as good. What the
- * host had is put back whole, flags included; a flag set together with its mask cleared stops nothing, only an operation
- * does. */
-#define GUARDED(name, parameters, arguments)                           \
-    uint32_t g7231_guarded_##name parameters                           \
-    {                                                                  \
-        const unsigned int mode = _mm_getcsr();                        \
-        if ((mode & ~FLAGS) != DEFAULT_MODE) _mm_setcsr(DEFAULT_MODE); \
-        const uint32_t status = g7231_##name arguments;                \
-        if (_mm_getcsr() != mode) _mm_setcsr(mode);                    \
-        return status;                                                 \
+/* The host's flags stay while the door runs: a flag whose exception is masked alters no answer, and clearing one that is
+ * set takes longer than the rest of the guard (guard/run --cost). What the host had is put back whole, flags included; a
+ * flag set together with its mask cleared stops nothing, only an operation does. */
+#define GUARDED(name, parameters, arguments)            \
+    uint32_t g7231_guarded_##name parameters            \
+    {                                                   \
+        const unsigned int mode = _mm_getcsr();         \
+        _mm_setcsr(DEFAULT_MODE | (mode & FLAGS));      \
+        const uint32_t status = g7231_##name arguments; \
+        _mm_setcsr(mode);                               \
+        return status;                                  \
     }
 
 GUARDED(lpc_analysis, (const float *window, size_t len, float a[11], double r[11], float *k2), (window, len, a, r, k2))
