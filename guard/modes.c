@@ -146,8 +146,12 @@ static int stopped(int number, call *function, const struct mode *mode, uint64_t
         setrlimit(RLIMIT_CORE, &none);
         make_telling(number, turn, &given);
         ask(&doors[number], doors[number].bare, &given, DEFAULT, &wanted);
-        const unsigned after = ask(&doors[number], function, &given, mode->word, &got);
-        _exit(compare && (after != mode->word || !same(&wanted, &got)) ? 2 : 0);
+        for (unsigned flags = 0; flags <= FLAGS; flags += FLAGS) {
+            const unsigned word = mode->word | flags;
+            const unsigned after = ask(&doors[number], function, &given, word, &got);
+            if (compare && (after != word || !same(&wanted, &got))) _exit(2);
+        }
+        _exit(0);
     }
     int status = 0;
     if (waitpid(child, &status, 0) != child) {
