@@ -3,8 +3,14 @@
  * Every function answers a status: 0 is done, any other number is a refusal.
  * A refused call leaves every buffer that it was lent as it was, bit for bit.
  * Checks are made in the order in which a function's refusals are listed.
- * Buffers have the lengths written here, may not overlap and may not be null.
- * Link libc_api.a.
+ * Buffers have the lengths written here, may not overlap and may not be null,
+ * but for this: a buffer that is only read (const) may start where another one
+ * starts, since a door has made its whole answer before it writes. The proofs
+ * take buffers apart; that this holds is tested.
+ * The calling thread's floating-point mode must be IEEE's default: round to
+ * nearest, no flushing of subnormals, exceptions masked. Where that is not sure,
+ * call the guarded forms at the end of this file.
+ * Link libg7231.a (./install writes it).
  */
 #ifndef G7231_H
 #define G7231_H
@@ -102,6 +108,34 @@ uint32_t g7231_run_combined(float syn[10], float wz_mem[10], float wp_mem[10], f
  * Refuses: 4; 5. */
 uint32_t g7231_combined_impulse_response(const float aq[11], const float wz[10], const float wp[10], uint32_t lag,
                                          float beta, float out[60]);
+
+/* The guarded forms: the same doors for a host whose thread may not be in IEEE's
+ * default floating-point mode. Another rounding direction, flush-to-zero or
+ * denormals-are-zero changes the bits of the doors above, and an exception that
+ * is not masked stops the program in them. Each guarded form saves the mode
+ * (MXCSR, status flags included), sets the default, calls its door and puts the
+ * saved mode back. Same parameters, answers and refusals. */
+uint32_t g7231_guarded_lpc_analysis(const float *window, size_t len, float a[11], double r[11], float *k2);
+uint32_t g7231_guarded_lpc_to_lsp(const float a[11], float lsp[10]);
+uint32_t g7231_guarded_lsp_cosines_to_freq(const float cosines[10], float freq[10]);
+uint32_t g7231_guarded_lsp_freq_to_cosines(const float freq[10], float cosines[10]);
+uint32_t g7231_guarded_quantise_lsp_freq(const float p[10], const float prev[10], uint32_t *index, float set[10]);
+uint32_t g7231_guarded_decode_lsp_freq(uint32_t index, const float prev[10], float set[10]);
+uint32_t g7231_guarded_enforce_lsp_stability(const float cosines[10], float spacing_hz, float out[10],
+                                             uint32_t *converged);
+uint32_t g7231_guarded_interpolate_lsp(size_t choice, const float prev[10], const float cur[10], float out[10]);
+uint32_t g7231_guarded_lsp_to_lpc(const float lsp[10], float a[11]);
+uint32_t g7231_guarded_weighting_taps(const float a[11], float wz[10], float wp[10]);
+uint32_t g7231_guarded_weight_subframe(const float *x, size_t len, const float wz[10], const float wp[10],
+                                       float x_mem[10], float f_mem[10], float out[60]);
+uint32_t g7231_guarded_open_loop_pitch(const float *wbuf, size_t len, size_t half, uint32_t *lag);
+uint32_t g7231_guarded_harmonic_noise_shaping(const float *wbuf, size_t len, size_t place, uint32_t l_ol, uint32_t *lag,
+                                              float *beta);
+uint32_t g7231_guarded_run_combined(float syn[10], float wz_mem[10], float wp_mem[10], float p_hist[145],
+                                    const float input[60], const float aq[11], const float wz[10], const float wp[10],
+                                    uint32_t lag, float beta, float out[60]);
+uint32_t g7231_guarded_combined_impulse_response(const float aq[11], const float wz[10], const float wp[10],
+                                                 uint32_t lag, float beta, float out[60]);
 
 #ifdef __cplusplus
 }

@@ -4,7 +4,8 @@
 //!   encoder.rs by matching braces. `published` has their text as it stands. `ruled` has the same text with each
 //!   call of cos, acos and log10 replaced by document 01's rule (`CALLS`). Both are written to cargo's output
 //!   folder alone.
-//! - The doors: which of the fifteen stand in include/g7231.h, each held to the prototype that this package calls.
+//! - The doors: which of the fifteen stand in include/g7231.h, each held to the prototype that this package calls, and its
+//!   guarded form to the same parameters.
 //! - The library: the archive that the programs link.
 //!
 //! Variables: G7231_RUST names the folder that holds src/encoder.rs, G7231_LIBRARY the archive. One that is named
@@ -138,17 +139,20 @@ fn doors(top: &Path, facts: &mut String) {
         let short = name.trim_start_matches("g7231_");
         println!("cargo::rustc-check-cfg=cfg(door_{short})");
         let here = header.contains(&format!("{name}("));
-        if here && !header.contains(&plain(prototype)) {
-            fail(&format!("{}: the prototype of {name} is not\n  {prototype}", path.display()));
-        }
         if here {
+            // each door has a guarded form with the same parameters
+            for wanted in [prototype.to_string(), prototype.replace("g7231_", "g7231_guarded_")] {
+                if !header.contains(&plain(&wanted)) {
+                    fail(&format!("{}: a prototype of {name} is not\n  {wanted}", path.display()));
+                }
+            }
             println!("cargo::rustc-cfg=door_{short}");
         }
         landed.push(here);
     }
     let listed = landed.iter().filter(|l| **l).count();
-    if header.matches("uint32_t g7231_").count() != listed {
-        fail(&format!("{}: it has a function that is none of the fifteen", path.display()));
+    if header.matches("uint32_t g7231_").count() != 2 * listed {
+        fail(&format!("{}: it has a function that is none of the fifteen, bare or guarded", path.display()));
     }
     *facts +=
         &format!("/// Which of the fifteen doors stand in the header.\npub const LANDED: [bool; 15] = {landed:?};\n");

@@ -19,7 +19,7 @@ A name in backquotes with a slash and no space is a path from the top of the rep
 Under each letter the numbers run from 1 with none missing and none twice. Where the numbered sentences are at hand, each
 row's words must open its sentence, and every sentence must have a row.
 The other pages of docs/ and README.md are held to their paths and names too, but for what a build or a checkout makes
-(target/, oracle/target/, ../).
+(target/, oracle/target/, ../) and folders.
 Exit status: 0 all is there; 1 something is missing; 2 bad usage.
 ";
 
@@ -95,7 +95,7 @@ fn other_pages(top: &Path, but: &Path) -> u32 {
     for page in &pages {
         for (i, line) in read(page).lines().enumerate() {
             let made = |name: &str| ["target/", "oracle/target/", "../"].iter().any(|start| name.starts_with(start));
-            for name in named(line).filter(|name| !made(name)) {
+            for name in named(line).filter(|name| !made(name) && !name.ends_with('/')) {
                 names += 1;
                 if let Err(what) = exists(top, name) {
                     println!("{}:{}: {what}", page.display(), i + 1);

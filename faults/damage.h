@@ -1,0 +1,11 @@
+/* Inputs that a caller should not give, and may. */
+#ifndef DAMAGE_H
+#define DAMAGE_H
+
+#include "inputs.h"
+
+/* The inputs of a turn: valid ones, valid ones with bits flipped, with a limit put in, all limits, or random bits;
+ * lengths, places, lags and choices over and under their limits. */
+void make_damaged(const struct door *door, struct random *random, struct given *given);
+
+#endif

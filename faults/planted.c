@@ -1,0 +1,102 @@
+#include "planted.h"
+
+#include <string.h>
+
+#include "g7231.h"
+
+/* lsp_to_lpc(const float lsp[10], float a[11]); volatile, so that the compiler leaves the faults in */
+#define LSP(argument) ((volatile float *)(argument)[0].place)
+#define A(argument) ((volatile float *)(argument)[1].place)
+
+static uint32_t well(const union argument *argument) { return g7231_lsp_to_lpc(argument[0].place, argument[1].place); }
+
+static uint32_t reads_past(const union argument *argument)
+{
+    (void)LSP(argument)[10];
+    return well(argument);
+}
+
+static uint32_t reads_before(const union argument *argument)
+{
+    (void)LSP(argument)[-1];
+    return well(argument);
+}
+
+static uint32_t writes_past(const union argument *argument)
+{
+    A(argument)[11] = 1;
+    return well(argument);
+}
+
+static uint32_t writes_before(const union argument *argument)
+{
+    A(argument)[-1] = 1;
+    return well(argument);
+}
+
+static uint32_t writes_refused(const union argument *argument)
+{
+    const uint32_t status = well(argument);
+    if (status != 0) A(argument)[10] = 0;
+    return status;
+}
+
+/* the same number comes back, but a signalling NaN becomes a quiet one */
+static uint32_t quiets_refused(const union argument *argument)
+{
+    const volatile float one = 1;
+    const uint32_t status = well(argument);
+    for (int i = 0; i < 11 && status != 0; i++) A(argument)[i] = A(argument)[i] * one;
+    return status;
+}
+
+static uint32_t alters_input(const union argument *argument)
+{
+    const uint32_t status = well(argument);
+    LSP(argument)[3] = LSP(argument)[3] + 1;
+    return status;
+}
+
+/* nothing is different afterwards: only memory that cannot be written shows it */
+static uint32_t borrows_input(const union argument *argument)
+{
+    const float kept = LSP(argument)[3];
+    LSP(argument)[3] = kept;
+    return well(argument);
+}
+
+static uint32_t reads_answer(const union argument *argument)
+{
+    const float before = A(argument)[5];
+    const uint32_t status = well(argument);
+    if (status == 0 && before == before) A(argument)[5] = 1;
+    return status;
+}
+
+static uint32_t answers_otherwise(const union argument *argument)
+{
+    const uint32_t status = well(argument);
+    if (status == 0) A(argument)[4] = A(argument)[4] + 1;
+    return status;
+}
+
+static uint32_t loops(const union argument *argument)
+{
+    const volatile int on = 1;
+    while (on) continue;
+    return well(argument);
+}
+
+const struct planted planted[PLANTED] = {
+    {"reads one past the end", "lsp_to_lpc", reads_past, 1, "buffer lsp, end at the page"},
+    {"reads one before the start", "lsp_to_lpc", reads_before, 1, "buffer lsp, start at the page"},
+    {"writes one past the end", "lsp_to_lpc", writes_past, 1, "buffer a, end at the page"},
+    {"writes one before the start", "lsp_to_lpc", writes_before, 1, "wrote outside a"},
+    {"writes on refusal", "lsp_to_lpc", writes_refused, 1, "refused with 5 and altered a"},
+    {"quiets a signalling NaN on refusal", "lsp_to_lpc", quiets_refused, 1, "refused with 5 and altered a"},
+    {"alters an input", "lsp_to_lpc", alters_input, 1, "altered lsp, which is only read"},
+    {"writes an input as it was", "lsp_to_lpc", borrows_input, 1, "buffer lsp, start at the page"},
+    {"reads what it is to write", "lsp_to_lpc", reads_answer, 1, "another answer"},
+    {"guarded is not bare", "lsp_to_lpc", answers_otherwise, 0, "another answer"},
+    {"loops for ever", "lsp_to_lpc", loops, 1, "did not come back"},
+};
