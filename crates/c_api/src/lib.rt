@@ -15,7 +15,8 @@ ghost use Rattle.spec_tables.specs.Codebook.{lspRows};
 ghost use Rattle.spec_lsp.specs.Quantise.{quantiseLspFreq};
 ghost use Rattle.spec_lsp.specs.Decode.{decodeLspFreq};
 ghost use Rattle.combined.specs.Cascade.{settings};
-ghost use Rattle.combined.specs.Run.{runCombined, impulseResponse};
+ghost use Rattle.combined.specs.Run.{runCombined};
+ghost use Rattle.impulse.specs.Impulse.{impulseResponse};
 ghost use Rattle.c_api.specs.Lent.{lent, flag};
 ghost use Rattle.c_api.specs.Memory.{memory};
 
@@ -337,7 +338,7 @@ pub extern "C" fn g7231_combined_impulse_response(
     let a = *aq;
     let zeros = *wz;
     let poles = *wp;
-    let answer = combined::combined_impulse_response(a, zeros, poles, lag, beta);
+    let answer = impulse::combined_impulse_response(a, zeros, poles, lag, beta);
     let status = answer.status;
     if status == 0 {
         let samples = answer.out;

@@ -20,7 +20,7 @@ use Rattle.spec_lsp.specs.Quantise.{smaller, larger, nearest, weightOf, weights
 use Rattle.lsp_filter.specs.Interpolate.{previousWeight, currentWeight, weighed, interpolateLsp}
 use Rattle.lsp_filter.specs.Polynomial.{coefficient, quadratic, side, plusFactor, minusFactor, halfSum, lspToLpc}
 use Rattle.pitch.specs.Gate.{gate, atMostOne, passes}
-use Rattle.lpc.specs.Correlation.{windowed, lagged, correlation, lagWeight, corrected, sums}
+use Rattle.correlation.specs.Correlation.{windowed, lagged, correlation, lagWeight, corrected, sums}
 use Rattle.lpc.specs.Analysis.{trivial, setOf, lpcAnalysis}
 use Rattle.cases.specs.Marked.{Holds, splits, decodes, quantises, dc, dc+8, dc+3, set66051, marked, All}
 

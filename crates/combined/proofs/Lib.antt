@@ -4,4 +4,3 @@ pub mod History
 pub mod Stages
 pub mod Cascaded
 pub mod Kept
-pub mod Passed

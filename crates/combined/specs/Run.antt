@@ -1,4 +1,4 @@
--- One subframe through the combined filter, and its response to the unit impulse from rest (§2.12).
+-- One subframe through the combined filter (§2.12).
 -- Document 01, B59 to B62. Assumes nothing.
 use Prim.Native.Nat.{ℕ}
 use mathlib.Core.Bool.{Bool, _||_}
@@ -7,13 +7,10 @@ use lib.Dec.{ltb}
 use lib.Ieee.{Float}
 use Rattle.float.specs.Finite.{notFinite}
 use Rattle.float.specs.Refusal.{any, first, answer}
-use Rattle.float.specs.Single.{single}
 use Rattle.float.specs.Vector.{zeros}
 use Rattle.combined.specs.declared.CombinedMem.{CombinedMem}
 use Rattle.combined.specs.declared.Combined.{Combined}
-use Rattle.combined.specs.declared.CombinedOut.{CombinedOut}
-use Rattle.combined.specs.declared.ImpulseResponse.{ImpulseResponse}
-use Rattle.combined.specs.Memory.{reach, last, atRest, floats}
+use Rattle.combined.specs.Memory.{reach, last, floats}
 use Rattle.combined.specs.Cascade.{Settings, Cascade, cascaded}
 
 -- the memory after a subframe: its history has the last harmonic inputs
@@ -37,17 +34,3 @@ wild q input mem = any notFinite (floats mem) || any notFinite (input ∷ q .aq 
 
 unfoldable pub runCombined : Settings → List Float → CombinedMem → Combined
 runCombined q input mem = answer (first ((4, wrongLag (q .lag)) ∷ (5, wild q input mem) ∷ [])) (refusal mem) (done (cascaded q input mem 60))
-
--- the answer without the memory
-abbrev pub answered : Combined → CombinedOut
-answered r = record { status = r .status; out = r .out }
-
-abbrev pub impulse : List Float
-impulse = single 1 1 ∷ zeros 59
-
-abbrev pub response : Combined → ImpulseResponse
-response r = record { status = r .status; out = r .out }
-
--- from rest on the unit impulse
-unfoldable pub impulseResponse : Settings → ImpulseResponse
-impulseResponse q = response (runCombined q impulse atRest)

@@ -1,4 +1,4 @@
-// The combined filter (§2.12): synthesis, formant weighting and harmonic noise shaping of one subframe, and its impulse response.
+// The combined filter (§2.12): synthesis, formant weighting and harmonic noise shaping of one subframe.
 ghost use mathlib.Core.Path.{_≡_};
 ghost use mathlib.Core.Bool.{not};
 ghost use mathlib.Core.List.{_∷_, [], _++_};
@@ -11,7 +11,7 @@ ghost use Rattle.float.specs.Table.{table};
 ghost use Rattle.weighting.specs.Line.{behind};
 ghost use Rattle.combined.specs.Memory.{reach, atRest, shaped, floats};
 ghost use Rattle.combined.specs.Cascade.{settings, synthesised, cascaded};
-ghost use Rattle.combined.specs.Run.{done, refusal, runCombined, answered, impulseResponse};
+ghost use Rattle.combined.specs.Run.{done, refusal, runCombined};
 
 // How many harmonic inputs the history holds: the longest lag.
 pub const REACH: usize = 145;
@@ -42,16 +42,6 @@ pub struct Combined {
     pub status: u32,
     pub out: [f32; 60],
     pub mem: CombinedMem,
-}
-
-pub struct CombinedOut {
-    pub status: u32,
-    pub out: [f32; 60],
-}
-
-pub struct ImpulseResponse {
-    pub status: u32,
-    pub out: [f32; 60],
 }
 
 // A product taken from a sum.
@@ -235,70 +225,4 @@ pub fn run_combined(
         return refused(5, mem);
     }
     after
-}
-
-// One subframe through the filter, whose memory is lent. It is altered only where nothing is refused.
-pub fn run_combined_lent(
-    mem: &mut CombinedMem,
-    input: [f32; 60],
-    aq: [f32; 11],
-    wz: [f32; 10],
-    wp: [f32; 10],
-    lag: u32,
-    beta: f32,
-) -> CombinedOut
-    ensures { λ r. ⌜ (r ≡ answered (runCombined (settings aq wz wp lag beta) input (now (mem .entry)))) × (now (mem .exit) ≡ runCombined (settings aq wz wp lag beta) input (now (mem .entry)) .mem) ⌝ }
-{
-    let m = *mem;
-    let r = run_combined(m, input, aq, wz, wp, lag, beta);
-    let status = r.status;
-    let out = r.out;
-    if status == 0 {
-        let after = r.mem;
-        *mem = after;
-    }
-    CombinedOut { status, out }
-}
-
-// The same for a memory that travels by value: a local is lent, so that a program without lent memory of its own runs the lent form.
-pub fn run_combined_lending(
-    mem: CombinedMem,
-    input: [f32; 60],
-    aq: [f32; 11],
-    wz: [f32; 10],
-    wp: [f32; 10],
-    lag: u32,
-    beta: f32,
-) -> Combined
-    ensures { λ r. ⌜ r ≡ runCombined (settings aq wz wp lag beta) input mem ⌝ }
-{
-    let mut held = mem;
-    let r = run_combined_lent(&mut held, input, aq, wz, wp, lag, beta);
-    let status = r.status;
-    let out = r.out;
-    let after = held;
-    Combined {
-        status,
-        out,
-        mem: after,
-    }
-}
-
-// The filter's response to the unit impulse, from rest.
-pub fn combined_impulse_response(
-    aq: [f32; 11],
-    wz: [f32; 10],
-    wp: [f32; 10],
-    lag: u32,
-    beta: f32,
-) -> ImpulseResponse
-    ensures { λ r. ⌜ r ≡ impulseResponse (settings aq wz wp lag beta) ⌝ }
-{
-    let mut delta = [0.0f32; 60];
-    delta[0] = 1.0;
-    let rest = CombinedMem::new();
-    let r = run_combined(rest, delta, aq, wz, wp, lag, beta);
-    let status = r.status;
-    let out = r.out;
-    ImpulseResponse { status, out }
 }

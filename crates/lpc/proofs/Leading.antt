@@ -17,10 +17,10 @@ use Rattle.float.specs.Double.{_⊞_, _⊠_, double}
 use Rattle.float.specs.Narrow.{rounded, narrow}
 use Rattle.float.proofs.Table.{at-table}
 use Rattle.float.proofs.Loop.{keeps}
+use Rattle.correlation.specs.Correlation.{sums}
 use Rattle.lpc.specs.declared.Recursion.{Recursion}
 use Rattle.lpc.specs.declared.LpcSet.{LpcSet}
 use Rattle.lpc.specs.declared.LpcAnalysis.{LpcAnalysis}
-use Rattle.lpc.specs.Correlation.{sums}
 use Rattle.lpc.specs.Levinson.{reflection, raised, inside, advanced, tried, order, start, levinson}
 use Rattle.lpc.specs.Analysis.{trivial, predicted, setOf, refusedSet, lpcAnalysis}
 

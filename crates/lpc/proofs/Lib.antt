@@ -1,3 +1,2 @@
--- Laws behind the functions' proofs, and those that callers cite.
-mod Sums
+-- Laws that callers cite.
 pub mod Leading

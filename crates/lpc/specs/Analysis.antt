@@ -12,10 +12,10 @@ use Rattle.float.specs.Refusal.{first, answer}
 use Rattle.float.specs.Single.{single}
 use Rattle.float.specs.Double.{double}
 use Rattle.float.specs.Narrow.{narrow}
+use Rattle.correlation.specs.Correlation.{sums}
 use Rattle.lpc.specs.declared.Recursion.{Recursion}
 use Rattle.lpc.specs.declared.LpcSet.{LpcSet}
 use Rattle.lpc.specs.declared.LpcAnalysis.{LpcAnalysis}
-use Rattle.lpc.specs.Correlation.{sums}
 use Rattle.lpc.specs.Levinson.{levinson}
 
 -- coefficients 1 and ten zeros, k2 0

@@ -1,4 +1,3 @@
 -- Linear prediction of one window (§2.4). One notion a file.
-pub mod Correlation
 pub mod Levinson
 pub mod Analysis

@@ -13,12 +13,13 @@ use lib.ListN.{getD}
 use Rattle.float.specs.Table.{table}
 use Rattle.float.specs.Finite.{notFinite}
 use Rattle.float.specs.Refusal.{first, answer}
+use Rattle.roots.specs.Root.{crossings, rootsIn}
+use Rattle.roots.proofs.Inside.{Cosine}
 use Rattle.lsp.specs.declared.LspSet.{LspSet}
 use Rattle.lsp.specs.Answer.{refusedLsp}
 use Rattle.lsp.specs.Chebyshev.{plusNext, minusNext, chebyshev}
-use Rattle.lsp.specs.Root.{crossings, rootsIn}
 use Rattle.lsp.specs.Pairs.{inTurn, falling, paired, lpcToLsp}
-use Rattle.lsp.proofs.Inside.{Cosine, cosines}
+use Rattle.lsp.proofs.Inside.{cosines}
 
 -- where the first n fall, each of them does
 each : (n : ℕ) (x : List Float) → T (falling n x) → (k : ℕ) → k < n → T (lt (getD x (suc k) nan) (getD x k nan))

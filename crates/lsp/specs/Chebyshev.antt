@@ -1,4 +1,4 @@
--- The two sides of a prediction filter, A(z) ± z⁻¹¹ A(1/z) without their trivial factors, as series of Chebyshev polynomials of the cosine, and their values.
+-- The two sides of a prediction filter, A(z) ± z⁻¹¹ A(1/z) without their trivial factors, as series of Chebyshev polynomials of the cosine.
 -- Document 01, B13 and B14. Assumes nothing.
 use Prim.Native.Nat.{ℕ, zero, suc, _-_}
 use mathlib.Core.Bool.{cond}
@@ -7,9 +7,8 @@ use lib.Dec.{eqb}
 use lib.Ieee.{Float, nan}
 use lib.ListN.{getD}
 use Rattle.float.specs.Table.{table}
-use Rattle.float.specs.Loop.{back}
 use Rattle.float.specs.Single.{_⊕_, _⊖_, single}
-use Rattle.float.specs.Double.{_⊞_, _⊟_, _⊠_, double}
+use Rattle.float.specs.Double.{_⊠_, double}
 
 -- numbers of which the first is 1 and each other is made of its place and the one before it
 unfoldable pub seeded : (ℕ → Float → Float) → ℕ → Float
@@ -30,13 +29,3 @@ factor f m = cond (eqb m 0) (getD f 5 nan ⊠ double 1 2) (getD f (5 - m) nan)
 -- a side's six factors
 unfoldable pub chebyshev : (ℕ → Float → Float) → List Float
 chebyshev next = table 6 (factor (table 6 (seeded next)))
-
--- one step of Clenshaw's rule: 2x b₁ − b₂ + c
-unfoldable pub clenshawStep : Float → Float → Float → Float → Float
-clenshawStep x b1 b2 c = double 2 1 ⊠ x ⊠ b1 ⊟ b2 ⊞ c
-
--- Σ c[m] T_m(x), by its steps from m = 5 down to 1, each keeping the step before it
-unfoldable pub valueAt : List Float → Float → Float
-valueAt c x =
-    let b = back {S = Float × Float} 1 6 (λ m b. (clenshawStep x (b .0) (b .1) (getD c m nan), b .0)) (double 0 1, double 0 1) in
-    x ⊠ b .0 ⊟ b .1 ⊞ getD c 0 nan

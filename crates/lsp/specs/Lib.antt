@@ -1,5 +1,4 @@
 -- The line spectral pairs of a prediction filter. One notion a file.
 pub mod Answer
 pub mod Chebyshev
-pub mod Root
 pub mod Pairs

@@ -9,10 +9,10 @@ use lib.ListN.{getD}
 use Rattle.float.specs.Table.{table}
 use Rattle.float.specs.Finite.{notFinite}
 use Rattle.float.specs.Refusal.{first, answer}
+use Rattle.roots.specs.Root.{crossings, rootsIn}
 use Rattle.lsp.specs.declared.LspSet.{LspSet}
 use Rattle.lsp.specs.Answer.{refusedLsp}
 use Rattle.lsp.specs.Chebyshev.{plusNext, minusNext, chebyshev}
-use Rattle.lsp.specs.Root.{crossings, rootsIn}
 
 -- f1's first root, f2's first root, f1's second, ..
 unfoldable pub inTurn : List Float → List Float → ℕ → Float

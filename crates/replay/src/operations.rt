@@ -266,7 +266,7 @@ fn run_combined(words: &[u32; 512]) -> bool {
         p_hist,
     };
     let beta = float::of_bits(words[268]);
-    let answer = combined::run_combined(mem, input, aq, wz, wp, words[267], beta);
+    let answer = combined_lent::run_combined_lending(mem, input, aq, wz, wp, words[267], beta);
     let after = answer.mem;
     let out = answer.out;
     let same_mem = memory_matches(after, words);
@@ -294,7 +294,7 @@ fn combined_impulse_response(words: &[u32; 512]) -> bool {
     load(words, 12, &mut wz);
     load(words, 22, &mut wp);
     let beta = float::of_bits(words[33]);
-    let answer = combined::combined_impulse_response(aq, wz, wp, words[32], beta);
+    let answer = impulse::combined_impulse_response(aq, wz, wp, words[32], beta);
     let out = answer.out;
     let same = matches(&out, words, 35);
     (answer.status == words[34]) & same

@@ -27,9 +27,13 @@ predicted prev dc = single 3 8 ⊗ (prev ⊖ dc)
 unfoldable pub rebuilt : Float → Float → Float → Float
 rebuilt prev dc number = predicted prev dc ⊕ dc ⊕ number
 
+-- n numbers from a place on
+abbrev pub numbers : List ℤ → ℕ → ℕ → List ℤ
+numbers rows place n = table n (λ j. getD rows (place + j) (pos 0))
+
 -- row n of a band, and the ten numbers of the rows that an index names
 unfoldable pub bandRow : List ℤ → LspBand → ℕ → List ℤ
-bandRow rows band n = table (placeOf band .length) (λ j. getD rows (rowPlace (placeOf band .start) (placeOf band .length) n + j) (pos 0))
+bandRow rows band n = numbers rows (rowPlace (placeOf band .start) (placeOf band .length) n) (placeOf band .length)
 
 unfoldable pub rowNumbers : List ℤ → ℕ → List ℤ
 rowNumbers rows index =

@@ -4,7 +4,7 @@ ghost use Prim.Native.Nat.{_+_, _≤_};
 ghost use Rattle.spec_tables.specs.Band.{placeOf};
 ghost use Rattle.spec_tables.specs.Codebook.{lspRows};
 ghost use Rattle.spec_tables.specs.Rows.{rowPlace};
-ghost use Rattle.spec_lsp.specs.Decode.{refusedSet, predicted, rebuilt, rowNumbers, decoded, decodeLspFreq};
+ghost use Rattle.spec_lsp.specs.Decode.{refusedSet, predicted, rebuilt, numbers, rowNumbers, decoded, decodeLspFreq};
 use crate::index;
 use spec_tables::LspBand;
 
@@ -44,26 +44,35 @@ fn row_begins(band: LspBand, index: u8) -> usize
     band.row_place(index)
 }
 
+// Three numbers, and four, from a place on.
+fn three(rows: &[i16; 2560], place: usize) -> [i16; 3]
+    requires { ⌜ place + 3 ≤ 2560 ⌝ }
+    ensures { λ r. ⌜ r ≡ numbers (now (rows .entry)) place 3 ⌝ }
+{
+    [rows[place], rows[place + 1], rows[place + 2]]
+}
+
+fn four(rows: &[i16; 2560], place: usize) -> [i16; 4]
+    requires { ⌜ place + 4 ≤ 2560 ⌝ }
+    ensures { λ r. ⌜ r ≡ numbers (now (rows .entry)) place 4 ⌝ }
+{
+    [
+        rows[place],
+        rows[place + 1],
+        rows[place + 2],
+        rows[place + 3],
+    ]
+}
+
 // The ten numbers of the three rows that an index names.
 fn row_numbers(rows: &[i16; 2560], index: u32) -> [i16; 10]
     ensures { λ r. ⌜ r ≡ rowNumbers (now (rows .entry)) index ⌝ }
 {
     let bands = index::split_lsp_index(index);
-    let a = row_begins(LspBand::Band0, bands[0]);
-    let b = row_begins(LspBand::Band1, bands[1]);
-    let c = row_begins(LspBand::Band2, bands[2]);
-    [
-        rows[a],
-        rows[a + 1],
-        rows[a + 2],
-        rows[b],
-        rows[b + 1],
-        rows[b + 2],
-        rows[c],
-        rows[c + 1],
-        rows[c + 2],
-        rows[c + 3],
-    ]
+    let a = three(rows, row_begins(LspBand::Band0, bands[0]));
+    let b = three(rows, row_begins(LspBand::Band1, bands[1]));
+    let c = four(rows, row_begins(LspBand::Band2, bands[2]));
+    [a[0], a[1], a[2], b[0], b[1], b[2], c[0], c[1], c[2], c[3]]
 }
 
 // The set that an index makes of the previous one.

@@ -34,7 +34,7 @@ pub fn bare_filter() -> bool {
     let mut aq = [0.0f32; 11];
     aq[0] = 1.0;
     let none = [0.0f32; 10];
-    let answer = combined::combined_impulse_response(aq, none, none, 18, 0.25);
+    let answer = impulse::combined_impulse_response(aq, none, none, 18, 0.25);
     let out = answer.out;
     (answer.status == 0)
         & float::same_bits(out[0], 0x3f80_0000)

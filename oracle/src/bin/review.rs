@@ -2,7 +2,7 @@
 
 use oracle::args::{fail, Args};
 use oracle::sources;
-use std::collections::BTreeMap;
+use std::collections::{BTreeMap, BTreeSet};
 use std::fs;
 use std::path::{Path, PathBuf};
 
@@ -20,6 +20,8 @@ Under each letter the numbers run from 1 with none missing and none twice. Where
 row's words must open its sentence, and every sentence must have a row.
 The other pages of docs/ and README.md are held to their paths and names too, but for what a build or a checkout makes
 (target/, oracle/target/, ../) and folders.
+On docs/TRUST.md a name in backquotes as `lpc:silence_not_seen` is an edit, crates/lpc/must-fail/silence_not_seen.edit: each must
+exist, and the page must name every edit that does.
 Exit status: 0 all is there; 1 something is missing; 2 bad usage.
 ";
 
@@ -79,6 +81,7 @@ fn main() {
     };
     println!("{rows} rows ({bare} without a path), {names} names{held}: {faults} faults");
     faults += other_pages(&top, &file);
+    faults += edits(&top);
     if faults > 0 {
         fail("a page names what is not there");
     }
@@ -108,9 +111,54 @@ fn other_pages(top: &Path, but: &Path) -> u32 {
     faults
 }
 
+/// Holds the edits that docs/TRUST.md names to those that are there, both ways; answers how many are missing on either side.
+fn edits(top: &Path) -> u32 {
+    let page = "docs/TRUST.md";
+    let text = read(&top.join(page));
+    let named: BTreeSet<&str> = quoted(&text).filter(|name| is_edit(name)).collect();
+    let there = edits_there(top).unwrap_or_else(|e| fail(&format!("crates: {e}")));
+    let mut faults = 0;
+    for name in named.iter().filter(|name| !there.contains(**name)) {
+        println!("{page}: there is no edit {name}");
+        faults += 1;
+    }
+    for name in there.iter().filter(|name| !named.contains(name.as_str())) {
+        println!("{page} does not name the edit {name}");
+        faults += 1;
+    }
+    println!("{} edits, {} of them named on {page}: {faults} faults", there.len(), named.len());
+    faults
+}
+
+fn is_edit(name: &str) -> bool {
+    let word = |w: &str| !w.is_empty() && w.bytes().all(|b| b == b'_' || b.is_ascii_lowercase() || b.is_ascii_digit());
+    name.split_once(':').is_some_and(|(of, edit)| word(of) && word(edit))
+}
+
+/// Every crates/CRATE/must-fail/EDIT.edit, as CRATE:EDIT.
+fn edits_there(top: &Path) -> std::io::Result<BTreeSet<String>> {
+    let mut all = BTreeSet::new();
+    for of in fs::read_dir(top.join("crates"))? {
+        let of = of?;
+        let Ok(listed) = fs::read_dir(of.path().join("must-fail")) else { continue };
+        for edit in listed {
+            let name = edit?.file_name();
+            if let Some(name) = name.to_string_lossy().strip_suffix(".edit") {
+                all.insert(format!("{}:{name}", of.file_name().to_string_lossy()));
+            }
+        }
+    }
+    Ok(all)
+}
+
+/// What stands in backquotes.
+fn quoted(text: &str) -> impl Iterator<Item = &str> {
+    text.lines().flat_map(|line| line.split('`').skip(1).step_by(2))
+}
+
 /// The names in backquotes that are paths.
 fn named(line: &str) -> impl Iterator<Item = &str> {
-    line.split('`').skip(1).step_by(2).filter(|name| name.contains('/') && !name.contains(' '))
+    quoted(line).filter(|name| name.contains('/') && !name.contains(' '))
 }
 
 fn read(path: &Path) -> String {

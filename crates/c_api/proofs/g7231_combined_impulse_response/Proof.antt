@@ -1,7 +1,7 @@
 -- `c_api::g7231_combined_impulse_response` meets its contract. Assumes nothing.
 use borrow.Author.Needs.{needs}
 use mathlib.Core.Path.{ap}
-use Rattle.combined.specs.declared.ImpulseResponse.{ImpulseResponse}
+use Rattle.impulse.specs.declared.ImpulseResponse.{ImpulseResponse}
 use Rattle.c_api.proofs.Lent.{stored, kept}
 use Rattle.c_api.proofs.g7231_combined_impulse_response.Statement.{statement}
 use Rattle.c_api.proofs.g7231_combined_impulse_response.Tie as tie

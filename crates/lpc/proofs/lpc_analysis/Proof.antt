@@ -9,9 +9,9 @@ use lib.Ieee.Scale.{finite}
 use lib.ListN.{length}
 use Rattle.float.specs.Table.{table}
 use Rattle.float.specs.Refusal.{all}
+use Rattle.correlation.specs.Correlation.{windowed, correlation, corrected, sums}
 use Rattle.lpc.specs.declared.LpcSet.{LpcSet}
 use Rattle.lpc.specs.declared.LpcAnalysis.{LpcAnalysis}
-use Rattle.lpc.specs.Correlation.{windowed, correlation, corrected, sums}
 use Rattle.lpc.specs.Analysis.{setOf, refusedSet, lpcAnalysis}
 use borrow.Author.Needs.{needs}
 use Rattle.lpc.proofs.lpc_analysis.Statement.{statement}

@@ -7,10 +7,10 @@ use borrow.Author.Tests.{not-true, not-false, lt-ltb, le-ltb}
 use lib.Dec.{ltb}
 use lib.Ieee.{Float}
 use Rattle.float.specs.Table.{table}
-use Rattle.lsp.specs.declared.Crossings.{Crossings}
+use Rattle.roots.specs.declared.Crossings.{Crossings}
+use Rattle.roots.specs.Root.{crossings, rootsIn}
 use Rattle.lsp.specs.declared.LspSet.{LspSet}
 use Rattle.lsp.specs.Answer.{refusedLsp}
-use Rattle.lsp.specs.Root.{crossings, rootsIn}
 use Rattle.lsp.specs.Pairs.{inTurn, falling, paired}
 use borrow.Author.Needs.{needs}
 use Rattle.lsp.proofs.pair.Statement.{statement}

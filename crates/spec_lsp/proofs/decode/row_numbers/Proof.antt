@@ -16,71 +16,40 @@ row-numbers-spec =
     (λ c. search needs)
     -- row-begins-requires
     (λ c κs. search needs)
+    -- three-requires
+    (λ c κs. search needs)
     -- array-read-row-begins-2
     (λ c. search needs)
     -- row-begins-requires-2
+    (λ c κs. search needs)
+    -- three-requires-2
     (λ c κs. search needs)
     -- array-read-row-begins-3
     (λ c. search needs)
     -- row-begins-requires-3
     (λ c κs. search needs)
-    -- mul-t16
+    -- four-requires
+    (λ c κs. search needs)
+    -- array-copy-out-t21
     (λ c. search needs)
-    -- element-copy-out-t19
+    -- array-copy-out-t24
     (λ c. search needs)
-    -- add-t20
+    -- array-copy-out-t27
     (λ c. search needs)
-    -- mul-t21
+    -- array-copy-out-t30
     (λ c. search needs)
-    -- element-copy-out-t24
+    -- array-copy-out-t33
     (λ c. search needs)
-    -- add-t25
+    -- array-copy-out-t36
     (λ c. search needs)
-    -- mul-t26
+    -- array-copy-out-t39
     (λ c. search needs)
-    -- element-copy-out-t29
+    -- array-copy-out-t42
     (λ c. search needs)
-    -- mul-t30
+    -- array-copy-out-t45
     (λ c. search needs)
-    -- element-copy-out-t33
-    (λ c. search needs)
-    -- add-t34
-    (λ c. search needs)
-    -- mul-t35
-    (λ c. search needs)
-    -- element-copy-out-t38
-    (λ c. search needs)
-    -- add-t39
-    (λ c. search needs)
-    -- mul-t40
-    (λ c. search needs)
-    -- element-copy-out-t43
-    (λ c. search needs)
-    -- mul-t44
-    (λ c. search needs)
-    -- element-copy-out-t47
-    (λ c. search needs)
-    -- add-t48
-    (λ c. search needs)
-    -- mul-t49
-    (λ c. search needs)
-    -- element-copy-out-t52
-    (λ c. search needs)
-    -- add-t53
-    (λ c. search needs)
-    -- mul-t54
-    (λ c. search needs)
-    -- element-copy-out-t57
-    (λ c. search needs)
-    -- add-t58
-    (λ c. search needs)
-    -- mul-t59
-    (λ c. search needs)
-    -- element-copy-out-t62
+    -- array-copy-out-t48
     (λ c. search needs)
     -- returns
-    (λ c. ten _ _ _ _ _ _ _ _ _ _ _ _ _ _ _ _ (c .before .before .before .before .before .before .before .before .before .before .before .before .before .split-lsp-index .ensures) (c .before .before .before .before .before .before .before .before .before .before .before .before .row-begins .ensures .0) (c .before .before .before .before .before .before .before .before .before .before .before .row-begins2 .ensures .0) (c .before .before .before .before .before .before .before .before .before .before .row-begins3 .ensures .0)
-    ((toZ-ofZ {w = w16} (record { sfits = c .before .before .before .before .before .before .before .before .before .t19 .given })), (toZ-ofZ {w = w16} (record { sfits = c .before .before .before .before .before .before .before .before .t24 .given })), (toZ-ofZ {w = w16} (record { sfits = c .before .before .before .before .before .before .before .t29 .given })))
-    ((toZ-ofZ {w = w16} (record { sfits = c .before .before .before .before .before .before .t33 .given })), (toZ-ofZ {w = w16} (record { sfits = c .before .before .before .before .before .t38 .given })), (toZ-ofZ {w = w16} (record { sfits = c .before .before .before .before .t43 .given })))
-    ((toZ-ofZ {w = w16} (record { sfits = c .before .before .before .t47 .given })), (toZ-ofZ {w = w16} (record { sfits = c .before .before .t52 .given })), (toZ-ofZ {w = w16} (record { sfits = c .before .t57 .given })))
-    (toZ-ofZ {w = w16} (record { sfits = c .t62 .given }))))
+    (λ c. ten _ _ _ _ _ _ _ _ _ _ _ _ _ _ _ _ _ _ _ (c .before .before .before .before .before .before .before .before .before .before .before .before .before .before .before .before .split-lsp-index .ensures) (c .before .before .before .before .before .before .before .before .before .before .before .before .before .before .before .row-begins .ensures .0) (c .before .before .before .before .before .before .before .before .before .before .before .before .before .row-begins2 .ensures .0) (c .before .before .before .before .before .before .before .before .before .before .before .row-begins3 .ensures .0) (c .before .before .before .before .before .before .before .before .before .before .before .before .before .before .three .ensures) (c .before .before .before .before .before .before .before .before .before .before .before .before .three2 .ensures) (c .before .before .before .before .before .before .before .before .before .before .four .ensures)
+    (toZ-ofZ {w = w16} (record { sfits = c .before .before .before .before .before .before .before .before .before .t21 .given })) (toZ-ofZ {w = w16} (record { sfits = c .before .before .before .before .before .before .before .before .t24 .given })) (toZ-ofZ {w = w16} (record { sfits = c .before .before .before .before .before .before .before .t27 .given })) (toZ-ofZ {w = w16} (record { sfits = c .before .before .before .before .before .before .t30 .given })) (toZ-ofZ {w = w16} (record { sfits = c .before .before .before .before .before .t33 .given })) (toZ-ofZ {w = w16} (record { sfits = c .before .before .before .before .t36 .given })) (toZ-ofZ {w = w16} (record { sfits = c .before .before .before .t39 .given })) (toZ-ofZ {w = w16} (record { sfits = c .before .before .t42 .given })) (toZ-ofZ {w = w16} (record { sfits = c .before .t45 .given })) (toZ-ofZ {w = w16} (record { sfits = c .t48 .given }))))

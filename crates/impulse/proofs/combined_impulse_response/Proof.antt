@@ -1,0 +1,39 @@
+-- `impulse::combined_impulse_response` meets its contract. Assumes nothing.
+use borrow.Author.Needs.{needs}
+use mathlib.Core.Path.{_≡_, refl, ap, _∙_}
+use mathlib.Core.List.{List, _∷_}
+use lib.Ieee.{Float, binary32, ofBits, round}
+use lib.ListN.{replicate}
+use Rattle.float.specs.Single.{single}
+use Rattle.combined.specs.declared.CombinedMem.{CombinedMem}
+use Rattle.combined.specs.declared.Combined.{Combined}
+use Rattle.combined.specs.Memory.{atRest}
+use Rattle.combined.specs.Cascade.{Settings}
+use Rattle.combined.specs.Run.{runCombined}
+use Rattle.impulse.specs.Impulse.{impulse, response, impulseResponse}
+use Rattle.impulse.proofs.combined_impulse_response.Statement.{statement}
+use Rattle.impulse.proofs.combined_impulse_response.Tie as tie
+
+-- the code's impulse is the unit impulse
+delta : ofBits binary32 1065353216 ∷ replicate 59 (ofBits binary32 0) ≡ impulse
+unfolding single round ofBits
+delta = refl
+
+rested : (q : Settings) (mem : CombinedMem) (r : Combined) → mem ≡ atRest → r ≡ runCombined q (ofBits binary32 1065353216 ∷ replicate 59 (ofBits binary32 0)) mem → response r ≡ impulseResponse q
+unfolding impulseResponse
+rested q mem r e f =
+    let g : r ≡ runCombined q impulse atRest = f ∙ rw (delta, e) in
+    ap response g
+
+pub combined-impulse-response-spec : {M : Type 1} → statement M
+combined-impulse-response-spec =
+    tie.close
+    (tie.spec
+    -- array-write-delta
+    (λ c. search needs)
+    -- new-requires
+    (λ c κs. search needs)
+    -- run-combined-requires
+    (λ c κs. search needs)
+    -- returns
+    (λ c. rested _ _ _ (c .before .before .new .ensures) (c .before .run-combined .ensures)))

@@ -1,0 +1,3 @@
+-- The roots of a cosine series. One notion a file.
+pub mod Clenshaw
+pub mod Root

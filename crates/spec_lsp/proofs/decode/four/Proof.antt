@@ -1,0 +1,36 @@
+-- `spec_lsp::decode::four` meets its contract. Assumes nothing.
+use borrow.Author.Needs.{needs}
+use mir.Facts.{toZ-ofZ}
+use mir.Syntax.{w16}
+use Rattle.spec_lsp.proofs.Numbers.{four}
+use Rattle.spec_lsp.proofs.decode.four.Statement.{statement}
+use Rattle.spec_lsp.proofs.decode.four.Tie as tie
+
+pub four-spec : {M : Type 1} → statement M
+four-spec =
+    tie.close
+    (tie.spec
+    -- mul-t3
+    (λ c. search needs)
+    -- element-copy-out-t6
+    (λ c. search needs)
+    -- add-t7
+    (λ c. search needs)
+    -- mul-t8
+    (λ c. search needs)
+    -- element-copy-out-t11
+    (λ c. search needs)
+    -- add-t12
+    (λ c. search needs)
+    -- mul-t13
+    (λ c. search needs)
+    -- element-copy-out-t16
+    (λ c. search needs)
+    -- add-t17
+    (λ c. search needs)
+    -- mul-t18
+    (λ c. search needs)
+    -- element-copy-out-t21
+    (λ c. search needs)
+    -- returns
+    (λ c. four (c .before .before .before .before .args .rows .now) (c .before .before .before .before .args .place) _ _ _ _ (toZ-ofZ {w = w16} (record { sfits = c .before .before .before .t6 .given })) (toZ-ofZ {w = w16} (record { sfits = c .before .before .t11 .given })) (toZ-ofZ {w = w16} (record { sfits = c .before .t16 .given })) (toZ-ofZ {w = w16} (record { sfits = c .t21 .given }))))
