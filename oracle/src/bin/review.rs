@@ -21,7 +21,7 @@ row's words must open its sentence, and every sentence must have a row.
 The other pages of docs/ and README.md are held to their paths and names too, but for what a build or a checkout makes
 (target/, oracle/target/, ../) and folders.
 On docs/TRUST.md a name in backquotes as `lpc:silence_not_seen` is an edit, crates/lpc/must-fail/silence_not_seen.edit: each must
-exist, and the page must name every edit that does.
+exist, and the page must name every edit that does. README.md must name in backquotes every crate that crates.txt lists.
 Exit status: 0 all is there; 1 something is missing; 2 bad usage.
 ";
 
@@ -82,6 +82,7 @@ fn main() {
     println!("{rows} rows ({bare} without a path), {names} names{held}: {faults} faults");
     faults += other_pages(&top, &file);
     faults += edits(&top);
+    faults += map(&top);
     if faults > 0 {
         fail("a page names what is not there");
     }
@@ -128,6 +129,20 @@ fn edits(top: &Path) -> u32 {
     }
     println!("{} edits, {} of them named on {page}: {faults} faults", there.len(), named.len());
     faults
+}
+
+/// Answers how many crates README.md does not name.
+fn map(top: &Path) -> u32 {
+    let (crates, page) = (read(&top.join("crates.txt")), read(&top.join("README.md")));
+    let named: BTreeSet<&str> = quoted(&page).collect();
+    let listed = crates.lines().map(|line| line.split('#').next().unwrap_or(""));
+    let listed: Vec<&str> = listed.filter_map(|line| Some(line.split_once(':')?.0.trim())).collect();
+    let missing: Vec<&&str> = listed.iter().filter(|name| !named.contains(**name)).collect();
+    for name in &missing {
+        println!("README.md does not name the crate {name}");
+    }
+    println!("{} crates, {} not named in README.md", listed.len(), missing.len());
+    missing.len() as u32
 }
 
 fn is_edit(name: &str) -> bool {
