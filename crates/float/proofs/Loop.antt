@@ -1,10 +1,15 @@
 -- Laws of `over` and `back`, and the invariants of loops that run them: `Went a b step s₀ i s` says that s is the state after the turns a, .., i - 1,
 -- and `Fell a b step s₀ i s` that it is the state after the turns b - 1, .., i. A state that no later turn changes is the last one. Assumes nothing.
-use mathlib.Core.Path.{_≡_, refl, sym, ap, _∙_}
+use mathlib.Core.Path.{_≡_, refl, sym, ap, _∙_, subst}
+use mathlib.Core.Logic.{inl, inr}
 use Prim.Native.Nat.{ℕ, zero, suc, _+_, _-_, _≤_, _<_, zero-le}
-use native.Mathlib.Nat.{le-refl}
+use native.Mathlib.Nat.{le-refl, le-of-suc-le-suc, eq-or-lt-of-le}
 use native.Mathlib.Omega.{arith}
 use Rattle.float.specs.Loop.{times, over, back}
+
+-- what holds of each number below n, and of n, holds of each below suc n
+pub one-more : (P : ℕ → Type 0) (n : ℕ) → ((k : ℕ) → k < n → P k) → P n → (k : ℕ) → k < suc n → P k
+one-more P n h p k l = elim (eq-or-lt-of-le (le-of-suc-le-suc l)) [ inl e ↦ subst P (sym e) p | inr m ↦ h k m ]
 
 -- loops of equal turns are equal
 pub same-times : {S : Type 0} (n : ℕ) (step next : ℕ → S → S) (s : S) → ((i : ℕ) (x : S) → i < n → step i x ≡ next i x) → times n step s ≡ times n next s

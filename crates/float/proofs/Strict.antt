@@ -89,5 +89,10 @@ le-lt-trans x y z h k =
     by-cases (lt x z)
     (λ n. lt-not-le y z k (le-trans-any z x y (turn x z (le-trans-any x y z h (lt-le y z k)) n) h))
 
+pub lt-le-trans : (x y z : Float) → T (lt x y) → T (le y z) → T (lt x z)
+lt-le-trans x y z h k =
+    by-cases (lt x z)
+    (λ n. lt-not-le x y h (le-trans-any y z x k (turn x z (le-trans-any x y z (lt-le x y h) k) n)))
+
 pub lt-trans-any : (x y z : Float) → T (lt x y) → T (lt y z) → T (lt x z)
 lt-trans-any x y z h k = le-lt-trans x y z (lt-le x y h) k

@@ -4,3 +4,5 @@ mod Lanes
 pub mod Turns
 pub mod Window
 pub mod Winner
+pub mod Standing
+pub mod Greatest

@@ -4,10 +4,11 @@ use mathlib.Core.Path.{_≡_, refl, sym, ap, _∙_, subst}
 use mathlib.Core.Logic.{_⊎_, inl, inr}
 use mathlib.Core.Bool.{Bool, true, false, cond}
 use Prim.Native.Nat.{ℕ, zero, suc, _≤_, _<_}
-use native.Mathlib.Nat.{eq-or-lt-of-le, le-of-suc-le-suc, not-suc-le-zero, zero-lt-suc, lt-of-lt-of-le, le-suc}
+use native.Mathlib.Nat.{not-suc-le-zero, zero-lt-suc, lt-of-lt-of-le, le-suc}
 use native.Mathlib.Omega.{arith}
 use lib.Dec.{T}
 use lib.Ieee.{Float, nan, inf, fin, lt, le}
+use Rattle.float.proofs.Loop.{one-more}
 use Rattle.float.proofs.Strict.{lt-self, lt-trans-any, le-lt-trans}
 use Rattle.row_search.specs.Search.{better, among, best}
 
@@ -18,21 +19,17 @@ record Least (error : ℕ → Float) (n : ℕ) (found : Float × ℕ) : Type 0 w
   is : (found .0 ≡ error (found .1)) ⊎ ((found .0 ≡ inf false) × (found .1 ≡ 0))
   one : (found .1 ≡ 0) ⊎ (found .1 < n)
 
--- what holds of each index below n, and of n, holds of each below suc n
-more : (P : ℕ → Type 0) (n : ℕ) → ((k : ℕ) → k < n → P k) → P n → (k : ℕ) → k < suc n → P k
-more P n h p k l = elim (eq-or-lt-of-le (le-of-suc-le-suc l)) [ inl e ↦ subst P (sym e) p | inr m ↦ h k m ]
-
 step : (error : ℕ → Float) (n : ℕ) (found : Float × ℕ) (b : Bool) → lt (error n) (found .0) ≡ b → Least error n found → Least error (suc n) (cond b (error n, n) found)
 step error n found true h r =
     let t : T (lt (error n) (found .0)) = rw h tt in
     record {
-      none-smaller = more (λ (k : ℕ). T (lt (error k) (error n)) → ⊥) n (λ k l s. r .none-smaller k l (lt-trans-any (error k) (error n) (found .0) s t)) (lt-self (error n));
+      none-smaller = one-more (λ (k : ℕ). T (lt (error k) (error n)) → ⊥) n (λ k l s. r .none-smaller k l (lt-trans-any (error k) (error n) (found .0) s t)) (lt-self (error n));
       none-before = λ k l s. r .none-smaller k l (le-lt-trans (error k) (error n) (found .0) s t);
       is = inl refl;
       one = inr (omega arith);
     }
 step error n found false h r = record {
-  none-smaller = more (λ (k : ℕ). T (lt (error k) (found .0)) → ⊥) n (r .none-smaller) (λ s. subst T h s);
+  none-smaller = one-more (λ (k : ℕ). T (lt (error k) (found .0)) → ⊥) n (r .none-smaller) (λ s. subst T h s);
   none-before = r .none-before;
   is = r .is;
   one = later (r .one);
