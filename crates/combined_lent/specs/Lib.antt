@@ -1,1 +1,2 @@
+-- The answer beside a lent memory.
 pub mod Answered

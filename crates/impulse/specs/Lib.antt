@@ -1,1 +1,2 @@
+-- The response to the unit impulse.
 pub mod Impulse
