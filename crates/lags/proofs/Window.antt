@@ -2,13 +2,13 @@
 -- Assumes nothing.
 use mathlib.Core.Path.{_≡_, refl, sym, ap, _∙_, subst}
 use mathlib.Core.Bool.{false}
-use mathlib.Core.List.{List}
+use mathlib.Core.List.{List, _++_}
 use Prim.Native.Nat.{ℕ, suc, _+_, _-_, _≤_, _<_}
 use native.Mathlib.Omega.{arith}
 use lib.IntN.{pos}
 use lib.Ieee.{Float, nan, fin, binary64, add}
 use lib.ListN.{length, getD, take, drop, length-drop}
-use lib.Seq.{getD-take, getD-drop, length-take-le}
+use lib.Seq.{getD-take, getD-drop, length-take-le, take-append-seam}
 use Rattle.float.specs.Loop.{times, over}
 use Rattle.float.specs.Double.{_⊠_}
 use Rattle.float.proofs.Loop.{same-times}
@@ -21,7 +21,11 @@ pub record Copy (x w : List Float) (a n : ℕ) : Type 0 where
   pub inside : a + n ≤ length w
   pub same : take n x ≡ take n (drop a w)
 
--- what `widened` gives for the part of w up to place e
+-- what begins with f
+pub begins : (x f rest : List Float) → x ≡ f ++ rest → take (length f) x ≡ f
+begins x f rest e = ap (take (length f)) e ∙ take-append-seam f rest
+
+-- what `widen` gives for the part of w up to place e
 pub copied : (x w : List Float) (a n e : ℕ) → e ≡ a + n → e ≤ length w → take (length (take (e - a) (drop a w))) x ≡ take (e - a) (drop a w) → Copy x w a n
 copied x w a n e q h s =
     let k : e - a ≡ n = omega arith in

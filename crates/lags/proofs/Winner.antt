@@ -9,12 +9,12 @@ use native.Mathlib.Omega.{arith}
 use borrow.Author.Tests.{lt-ltb}
 use lib.Dec.{T, ltb}
 use lib.Ieee.{Float, lt}
-use Rattle.float.specs.Loop.{times, over}
+use Rattle.float.specs.Loop.{over}
 use Rattle.float.specs.Double.{_⊠_, double}
 use Rattle.float.proofs.Loop.{keeps}
 use Rattle.float.proofs.Blocks.{same-reached}
 use Rattle.lags.specs.declared.Best.{Best}
-use Rattle.lags.specs.Lags.{cross, power, positive, counts, ratioOf, ratio}
+use Rattle.lags.specs.Lags.{cross, power, positive, ratioOf}
 use Rattle.lags.specs.Search.{Rule, nothing, challenged, offered, winner, preferred, greater}
 
 -- the winner s among the lags a, .., b - 1 with those sums

@@ -1,11 +1,12 @@
 // The sums of the weighted speech at each lag, and the search over lags that open-loop pitch and harmonic noise shaping share.
 // Each sum keeps the Rust's order; eight lags' sums run side by side. A caller widens its samples once: history, then the samples.
 ghost use mathlib.Core.Path.{_≡_};
+ghost use mathlib.Core.List.{_++_};
 ghost use Prim.Native.Nat.{suc, _+_, _-_, _≤_, min};
 ghost use lib.Dec.{T};
 ghost use lib.Ieee.{nan};
 ghost use lib.Ieee.Scale.{finite};
-ghost use lib.ListN.{length, getD, take};
+ghost use lib.ListN.{length, getD, drop};
 ghost use Rattle.float.specs.Table.{table};
 ghost use Rattle.float.specs.Loop.{over};
 ghost use Rattle.float.specs.Double.{_⊠_};
@@ -41,10 +42,10 @@ pub struct EightLags {
 
 // ---- sums
 
-// The samples, which are finite, as doubles, once for all the sums.
+// The samples, which are finite, as doubles, once for all the sums; what stands after them stays.
 pub fn widen(out: &mut [f64; 265], f: &[f32])
     requires { ⌜ length (now out) ≡ 265 ⌝ ∗ ⌜ length (now f) ≤ 265 ⌝ ∗ ⌜ T (all finite (now f)) ⌝ }
-    ensures { λ _. ⌜ take (length (now (f .entry))) (now (out .exit)) ≡ now (f .entry) ⌝ }
+    ensures { λ _. ⌜ now (out .exit) ≡ now (f .entry) ++ drop (length (now (f .entry))) (now (out .entry)) ⌝ }
 {
     let mut i = 0;
     while i < f.len() {

@@ -14,7 +14,7 @@ use Rattle.float.proofs.Parts.{passes}
 use Rattle.pitch.specs.declared.HnsParams.{HnsParams}
 use Rattle.pitch.specs.declared.Shaping.{Shaping}
 use Rattle.pitch.specs.Shaping.{settings, refusedShaping, harmonicNoiseShaping}
-use Rattle.lags.proofs.Window.{Copy, copied}
+use Rattle.lags.proofs.Window.{Copy, begins, copied}
 use Rattle.pitch.proofs.Settings.{settings-window}
 use Rattle.pitch.proofs.harmonic_noise_shaping.Statement.{statement}
 use Rattle.pitch.proofs.harmonic_noise_shaping.Tie as tie
@@ -104,4 +104,4 @@ harmonic-noise-shaping-spec =
     (λ c κs. search needs)
     -- returns-7
     (λ c. done 142 _ _ _ _ _ _ refl (c .before .before .before .before .before .before .before .before .before .before .before .before .before .before .before .if1 .left) (c .before .before .before .before .before .before .before .before .before .before .before .before .before .before .if2 .left) (c .before .before .before .before .before .before .before .before .before .before .before .before .before .if3 .left) (omega (arith, c .before .before .before .before .before .before .before .before .before .before .before .if5 .left, c .before .before .before .before .before .before .before .before .before .before .before .before .if4 .left))
-    (sym (c .before .before .before .before .before .before .before .before .before .all-finite .ensures) ∙ not-false _ (c .before .before .before .before .before .before .before .before .if6 .left)) (c .before .before .before .before .before .before .widen .ensures) (c .shaping-in .ensures)))
+    (sym (c .before .before .before .before .before .before .before .before .before .all-finite .ensures) ∙ not-false _ (c .before .before .before .before .before .before .before .before .if6 .left)) (begins _ _ _ (c .before .before .before .before .before .before .widen .ensures)) (c .shaping-in .ensures)))

@@ -17,7 +17,7 @@ use Rattle.lags.specs.declared.Best.{Best}
 use Rattle.pitch.specs.declared.OpenLoop.{OpenLoop}
 use Rattle.lags.specs.Search.{winner, preferred}
 use Rattle.pitch.specs.Pitch.{refusedPitch, start, openLoopPitch}
-use Rattle.lags.proofs.Window.{Copy, copied, winner-window}
+use Rattle.lags.proofs.Window.{Copy, begins, copied, winner-window}
 use Rattle.pitch.proofs.open_loop_pitch.Statement.{statement}
 use Rattle.pitch.proofs.open_loop_pitch.Tie as tie
 
@@ -100,4 +100,4 @@ open-loop-pitch-spec =
     -- returns-4
     (λ c. found 142 _ _ _ _ (c .before .before .before .before .before .before .before .before .before .before .before .before .before .if1 .left) (c .before .before .before .before .before .before .before .before .before .before .before .before .if2 .left)
     (sym (c .before .before .before .before .before .before .before .before .before .before .all-finite .ensures) ∙ not-false _ (c .before .before .before .before .before .before .before .before .before .if3 .left))
-    (c .before .before .before .before .before .before .widen .ensures) (c .search-in .ensures)))
+    (begins _ _ _ (c .before .before .before .before .before .before .widen .ensures)) (c .search-in .ensures)))
