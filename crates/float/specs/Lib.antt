@@ -8,5 +8,6 @@ pub mod Double
 pub mod HalfEven
 pub mod Narrow
 pub mod Vector
+pub mod Lines
 pub mod Pattern
 pub mod Difference
