@@ -43,13 +43,13 @@ cosines-in-spec =
     Inv-loop
     μ-loop
     -- loop-holds
-    (λ c. filled-none 10 (line (c .args .t2)) _ refl)
+    (λ c. filled-none 10 _ _ refl)
     -- mul-step-of-frequency
     (λ c. search needs)
     -- array-read-step-of-frequency
     (λ c. search needs)
     -- step-of-frequency-requires
-    (λ c κs. bounded _ _ (c .before .before .pre .1) (search needs))
+    (λ c κs. search (bounded, needs))
     -- cosine-single-requires
     (λ c κs. search needs)
     -- mul-out
@@ -61,7 +61,6 @@ cosines-in-spec =
     -- loop-less
     (λ c. search needs)
     -- loop-again
-    (λ c. filled-more 10 (line (c .before .before .before .before .args .t2)) _ _ _ (c .before .before .loop-test .taken)
-    (found _ _ _ (c .before .step-of-frequency .ensures .0) (c .cosine-single .ensures)) (c .before .before .before .loop .inv))
+    (λ c. search (filled-more, found))
     -- returns
-    (λ c. finish (c .before .before .args .t2) _ _ (search needs) (c .loop-test .left) (c .before .loop .inv)))
+    (λ c. search (finish, needs)))

@@ -43,7 +43,7 @@ freqs-in-spec =
     Inv-loop
     μ-loop
     -- loop-holds
-    (λ c. filled-none 10 (line (c .args .t2)) _ refl)
+    (λ c. filled-none 10 _ _ refl)
     -- mul-step
     (λ c. search needs)
     -- array-read-step
@@ -51,7 +51,7 @@ freqs-in-spec =
     -- step-requires
     (λ c κs. search needs)
     -- frequency-requires
-    (λ c κs. half _ _ _ (c .before .before .before .pre .1) (search needs) (c .step .ensures))
+    (λ c κs. search (half, needs))
     -- mul-out
     (λ c. search needs)
     -- array-write-out
@@ -61,7 +61,6 @@ freqs-in-spec =
     -- loop-less
     (λ c. search needs)
     -- loop-again
-    (λ c. filled-more 10 (line (c .before .before .before .before .args .t2)) _ _ _ (c .before .before .loop-test .taken)
-    (found _ _ _ (c .before .step .ensures) (c .frequency .ensures)) (c .before .before .before .loop .inv))
+    (λ c. search (filled-more, found))
     -- returns
-    (λ c. finish (c .before .before .args .t2) _ _ (search needs) (c .loop-test .left) (c .before .loop .inv)))
+    (λ c. search (finish, needs)))

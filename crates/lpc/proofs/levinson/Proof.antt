@@ -43,12 +43,12 @@ levinson-spec =
     -- loop-holds
     (λ c. begin _)
     -- try-order-requires
-    (λ c κs. (c .before .loop .inv .from, omega arith))
+    (λ c κs. search needs)
     -- add-i
     (λ c. search needs)
     -- loop-less
     (λ c. search needs)
     -- loop-again
-    (λ c. went-more 1 11 _ _ _ _ _ (c .before .loop-test .taken) (c .try-order .ensures) (c .before .before .loop .inv))
+    (λ c. search went-more)
     -- returns
-    (λ c. all _ _ _ (c .loop-test .left) (c .before .loop .inv)))
+    (λ c. search all))

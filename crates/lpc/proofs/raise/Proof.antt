@@ -57,7 +57,7 @@ raise-spec =
     -- array-write-out
     (λ c. search needs)
     -- loop-holds
-    (λ c. (search needs, search needs, start _ _ _ (c .good .1 .1 .0 .1 .0 .1) (c .pre .1)))
+    (λ c. search (start, needs))
     -- mul-out-2
     (λ c. search needs)
     -- array-read-out
@@ -77,6 +77,6 @@ raise-spec =
     -- loop-less
     (λ c. search needs)
     -- loop-again
-    (λ c. (search needs, search needs, more _ _ _ _ _ (c .before .loop .inv .0) (c .loop-test .taken) (c .before .before .pre .1) (c .before .loop .inv .2)))
+    (λ c. search (more, needs))
     -- returns
-    (λ c. all _ _ _ _ _ (c .loop-test .left) (c .before .loop .inv .1) (c .before .loop .inv .2)))
+    (λ c. search all))

@@ -41,7 +41,7 @@ reflect-spec =
     -- element-copy-out-acc
     (λ c. search needs)
     -- loop-holds
-    (λ c. went-none 1 _ (term _ _ _) _ (c .before .pre .0))
+    (λ c. search went-none)
     -- mul-acc-2
     (λ c. search needs)
     -- element-copy-out-acc-2
@@ -57,6 +57,6 @@ reflect-spec =
     -- loop-less
     (λ c. search needs)
     -- loop-again
-    (λ c. more _ _ _ _ _ (c .before .before .loop-test .taken) (c .before .before .before .loop .inv))
+    (λ c. search more)
     -- returns
-    (λ c. all _ _ _ _ _ _ (c .loop-test .left) (c .before .loop .inv)))
+    (λ c. search all))

@@ -33,10 +33,10 @@ set-of-spec =
     -- array-write-a
     (λ c. search needs)
     -- returns
-    (λ c. silent _ (c .if1 .taken))
+    (λ c. search silent)
     -- levinson-requires
     (λ c κs. search needs)
     -- narrowed-requires
     (λ c κs. search needs)
     -- returns-2
-    (λ c. spoken _ _ _ (c .before .before .before .before .if1 .left) (c .before .before .levinson .ensures) (c .narrowed .ensures)))
+    (λ c. search spoken))

@@ -34,7 +34,7 @@ try-order-spec =
     tie.close
     (tie.spec
     -- returns
-    (λ c. stays _ _ _ (c .if1 .taken))
+    (λ c. search stays)
     -- reflect-requires
     (λ c κs. search needs)
     -- is-inside-requires
@@ -44,6 +44,6 @@ try-order-spec =
     -- second-requires
     (λ c κs. search needs)
     -- returns-2
-    (λ c. goes _ _ _ _ _ _ _ (c .before .before .before .before .before .before .before .if1 .left) (c .before .before .before .before .reflect .ensures) (c .before .before .before .is-inside .ensures) (c .before .before .if2 .taken) (c .before .raise .ensures) (c .second .ensures))
+    (λ c. search goes)
     -- returns-3
-    (λ c. stops _ _ _ _ _ (c .before .before .before .before .before .if1 .left) (c .before .before .reflect .ensures) (c .before .is-inside .ensures) (c .if2 .left)))
+    (λ c. search stops))
