@@ -46,7 +46,7 @@ factors-spec =
     -- array-write-c
     (λ c. search needs)
     -- loop-holds
-    (λ c. (first _ _ (c .f32-to-f64-with-nan .ensures), search needs))
+    (λ c. search (first, needs))
     -- sub-f32-to-f64-with-nan
     (λ c. search needs)
     -- mul-f32-to-f64-with-nan
@@ -64,6 +64,6 @@ factors-spec =
     -- loop-less
     (λ c. search needs)
     -- loop-again
-    (λ c. (filled-more 6 _ _ _ _ (search needs) (turn _ _ _ (c .before .before .before .loop .inv .1) (c .f32-to-f64-with-nan2 .ensures)) (c .before .before .before .loop .inv .0), search needs))
+    (λ c. search (filled-more, turn, needs))
     -- returns
-    (λ c. filled-all 6 _ _ _ (c .loop-test .left) (c .before .loop .inv .0)))
+    (λ c. search filled-all))

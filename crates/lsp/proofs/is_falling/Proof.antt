@@ -65,6 +65,6 @@ is-falling-spec =
     -- loop-less
     (λ c. search needs)
     -- loop-again
-    (λ c. more _ _ _ (c .before .before .loop-test .taken) (c .before .before .before .loop .inv))
+    (λ c. search more)
     -- returns
-    (λ c. all _ _ _ (c .loop-test .left) (c .before .loop .inv)))
+    (λ c. search all))

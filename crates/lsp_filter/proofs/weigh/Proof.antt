@@ -50,6 +50,6 @@ weigh-spec =
     -- loop-less
     (λ c. search needs)
     -- loop-again
-    (λ c. filled-more 10 _ _ _ _ (search needs) (turn _ _ _ _ _ (c .before .before .before .before .weighing .ensures)) (c .before .before .before .loop .inv))
+    (λ c. search (filled-more, turn))
     -- returns
-    (λ c. filled-all 10 _ _ _ (c .loop-test .left) (c .before .loop .inv)))
+    (λ c. search filled-all))

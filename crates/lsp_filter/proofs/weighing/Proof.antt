@@ -33,10 +33,10 @@ weighing-spec =
     tie.close
     (tie.spec
     -- returns
-    (λ c. none _ (c .match .keys1))
+    (λ c. search none)
     -- returns-2
-    (λ c. one _ (c .match .keys2))
+    (λ c. search one)
     -- returns-3
-    (λ c. two _ (c .match .keys3))
+    (λ c. search two)
     -- returns-4
-    (λ c. other _ (c .match .rest .0 .0 .1) (c .match .rest .0 .1) (c .match .rest .1)))
+    (λ c. search other))
