@@ -43,14 +43,20 @@ same-move : (delta : Float) (ω : List Float) (j : ℕ) → moved delta ω j ≡
 unfolding apart half single round ofBits
 same-move delta ω j = rw add-one
 
-both : (ω ω' : List Float) (b b' : Bool) → ω' ≡ ω → b' ≡ b → state ω' b' ≡ state ω b
-both ω ω' b b' e f = rw (e, f)
+-- a turn that moved its pair, and one that met none too close
+abbrev Done : Float → List Float → ℕ → Settled → Type 0
+Done delta ω₀ j s = Went 0 9 (spread delta) (state ω₀ true) j s
 
--- one turn, by what the test says
-turn : (delta : Float) (ω₀ ω ω' : List Float) (b b' : Bool) (j : ℕ) (t : Bool) → j < 9 → tested delta ω j ≡ t → state ω' b' ≡ cond t (state (moved delta ω j) false) (state ω b) →
-    Went 0 9 (spread delta) (state ω₀ true) j (state ω b) → Went 0 9 (spread delta) (state ω₀ true) (j + 1) (state ω' b')
-unfolding spread
-turn delta ω₀ ω ω' b b' j t h e f r = went-more 0 9 (spread delta) (state ω₀ true) j (state ω b) (state ω' b') h (f ∙ rw (← e, same-test, same-move)) r
+module _ (delta : Float) (ω₀ ω ω' : List Float) (b b' : Bool) (j : ℕ) (h : j < 9) (r : Done delta ω₀ j (state ω b)) where
+  parted : tested delta ω j ≡ true → ω' ≡ moved delta ω j → b' ≡ false → Done delta ω₀ (j + 1) (state ω' b')
+  unfolding spread
+  parted e f g =
+      went-more 0 9 (spread delta) (state ω₀ true) j (state ω b) (state ω' b') h (rw (f, g, ← same-test, e, same-move)) r
+
+  kept : tested delta ω j ≡ false → ω' ≡ ω → b' ≡ b → Done delta ω₀ (j + 1) (state ω' b')
+  unfolding spread
+  kept e f g =
+      went-more 0 9 (spread delta) (state ω₀ true) j (state ω b) (state ω' b') h (rw (f, g, ← same-test, e)) r
 
 pub pass-spec : {M : Type 1} → statement M
 unfolding pass
@@ -96,9 +102,6 @@ pass-spec =
     -- loop-less
     (λ c. search needs)
     -- loop-again
-    (λ c. ⊎-elim
-    (λ w. turn _ _ _ _ _ _ _ true (c .before .loop-test .taken) (w .0 .taken) (both _ _ _ _ (w .1) (w .2)) (c .before .before .loop .inv))
-    (λ w. turn _ _ _ _ _ _ _ false (c .before .loop-test .taken) (w .0 .left) (both _ _ _ _ (w .1) (w .2)) (c .before .before .loop .inv))
-    (c .if1 .came))
+    (λ c. ⊎-elim (λ w. search parted) (λ w. search kept) (c .if1 .came))
     -- returns
-    (λ c. went-all 0 9 _ _ _ _ (c .loop-test .left) (c .before .loop .inv)))
+    (λ c. search went-all))
