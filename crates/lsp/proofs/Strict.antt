@@ -1,4 +1,5 @@
--- Where `lpc_to_lsp` is done, its ten cosines fall strictly, each less than the one before it, and lie in −1..1. Assumes nothing.
+-- Where `lpc_to_lsp` is done, its ten cosines fall strictly, each less than the one before it, and lie in −1..1.
+-- Assumes nothing.
 use mathlib.Core.Path.{_≡_, refl, sym, ap, subst}
 use mathlib.Core.Logic.{inl, inr}
 use mathlib.Core.Bool.{Bool, true, false, not, _&&_}
@@ -51,11 +52,13 @@ number v = v .status
 paired-done : (c d : List Float) → paired c d .status ≡ 0 → Done (paired c d) (ten c d)
 unfolding paired ten refusals Done number
 paired-done c d h =
-    let n = not-refused number (first (refusals c d)) refusedLines (record { status = 0; lines = ten c d }) (λ k. refl) h in
-    let f : falling 9 (ten c d) ≡ true = not-false (falling 9 (ten c d)) (clear (refusals c d) tt refl (n .0) .1 .1 .0) in
+    let x = ten c d in
+    let n = not-refused number (first (refusals c d)) refusedLines (record { status = 0; lines = x }) (λ k. refl) h in
+    let f : falling 9 x ≡ true = not-false (falling 9 x) (clear (refusals c d) tt refl (n .0) .1 .1 .0) in
     (ap (λ (v : Lines). v .lines) (n .1), subst T (sym f) tt)
 
-done : (a : List Float) → lpcToLsp a .status ≡ 0 → Done (lpcToLsp a) (ten (chebyshev (plusNext a)) (chebyshev (minusNext a)))
+done : (a : List Float) → lpcToLsp a .status ≡ 0 →
+    Done (lpcToLsp a) (ten (chebyshev (plusNext a)) (chebyshev (minusNext a)))
 unfolding lpcToLsp number
 done a h =
     let c = chebyshev (plusNext a) in
@@ -63,7 +66,8 @@ done a h =
     let n = not-refused number (first ((5, notFinite a) ∷ [])) refusedLines (paired c d) (λ k. refl) h in
     rw (n .1) (paired-done c d (rw (n .1) at h))
 
-pub strict : (a : List Float) → lpcToLsp a .status ≡ 0 → (k : ℕ) → k < 9 → T (lt (getD (lpcToLsp a .lines) (suc k) nan) (getD (lpcToLsp a .lines) k nan))
+pub strict : (a : List Float) → lpcToLsp a .status ≡ 0 → (k : ℕ) → k < 9 →
+    T (lt (getD (lpcToLsp a .lines) (suc k) nan) (getD (lpcToLsp a .lines) k nan))
 unfolding Done
 strict a h k l = rw (done a h .0) (each 9 (ten (chebyshev (plusNext a)) (chebyshev (minusNext a))) (done a h .1) k l)
 

@@ -26,14 +26,16 @@ abbrev μ-loop : tie.MeasureT-loop
 μ-loop t freq out₀ i₀ out i = 10 - i
 
 -- each frequency is within the bound
-bounded : (freq : List Float) (i : ℕ) → anyExceeds (single 65536 1) freq ≡ false → i < length freq → exceeds (power 16) (getD freq i nan) ≡ false
+bounded : (freq : List Float) (i : ℕ) → anyExceeds (single 65536 1) freq ≡ false → i < length freq →
+    exceeds (power 16) (getD freq i nan) ≡ false
 unfolding single round
 bounded freq i h l = any-at (exceeds (power 16)) freq h i nan l
 
 found : (x r : Float) (k : ℕ) → k ≡ stepOfFrequency x → r ≡ cosineSingle k → r ≡ cosineOf x
 found x r k e f = f ∙ ap cosineSingle e
 
-finish : (freq out : List Float) (i : ℕ) → length freq ≡ 10 → 10 ≤ i → Filled 10 (line freq) i out → out ≡ map cosineOf freq
+finish : (freq out : List Float) (i : ℕ) → length freq ≡ 10 → 10 ≤ i → Filled 10 (line freq) i out →
+    out ≡ map cosineOf freq
 finish freq out i l h r = filled-all 10 (line freq) i out h r ∙ sym (map-table cosineOf freq 10 nan l)
 
 pub cosines-in-spec : {M : Type 1} → statement M

@@ -27,13 +27,15 @@ abbrev μ-loop : tie.MeasureT-loop
 μ-loop t cosines out₀ i₀ out i = 10 - i
 
 -- the step of a finite cosine is one of half a circle
-half : (cosines : List Float) (i k : ℕ) → all finite cosines ≡ true → i < length cosines → k ≡ step (held (getD cosines i nan)) → k ≤ 2 ^ 24
-half cosines i k h l e = subst (λ (n : ℕ). n ≤ 2 ^ 24) (sym e) (step-held (getD cosines i nan) (all-at finite cosines (subst T (sym h) tt) i nan l) .1)
+half : (cosines : List Float) (i k : ℕ) → all finite cosines ≡ true → i < length cosines →
+    k ≡ step (held (getD cosines i nan)) → k ≤ 2 ^ 24
+half cosines i k h l e = rw e (step-held (getD cosines i nan) (all-at finite cosines (subst T (sym h) tt) i nan l) .1)
 
 found : (x r : Float) (k : ℕ) → k ≡ step (held x) → r ≡ frequency k → r ≡ freqOf x
 found x r k e f = f ∙ ap frequency e
 
-finish : (cosines out : List Float) (i : ℕ) → length cosines ≡ 10 → 10 ≤ i → Filled 10 (line cosines) i out → out ≡ map freqOf cosines
+finish : (cosines out : List Float) (i : ℕ) → length cosines ≡ 10 → 10 ≤ i → Filled 10 (line cosines) i out →
+    out ≡ map freqOf cosines
 finish cosines out i l h r = filled-all 10 (line cosines) i out h r ∙ sym (map-table freqOf cosines 10 nan l)
 
 pub freqs-in-spec : {M : Type 1} → statement M

@@ -1,4 +1,5 @@
--- `convert::lsp_cosines_to_freq` meets its contract: the check's number is the definition's, so each return is the refusal with it, or the answer.
+-- `convert::lsp_cosines_to_freq` meets its contract: the check's number is the definition's, so each return is the
+-- refusal with it, or the answer.
 -- Assumes nothing.
 use borrow.Author.Needs.{needs}
 use Rattle.float.proofs.Refusal.{answer-refused, answer-done, lines-done, shown-finite}

@@ -1,4 +1,5 @@
--- `convert::lsp_freq_to_cosines` meets its contract: the check's number is the definition's, so each return is the refusal with it, or the answer.
+-- `convert::lsp_freq_to_cosines` meets its contract: the check's number is the definition's, so each return is the
+-- refusal with it, or the answer.
 -- Assumes nothing.
 use borrow.Author.Needs.{needs}
 use lib.Ieee.{round, ofBits}

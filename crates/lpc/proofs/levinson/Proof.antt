@@ -22,7 +22,16 @@ Inv-loop r s₀ i₀ s i = Went 1 11 (order r) (start r) i s
 abbrev μ-loop : tie.MeasureT-loop
 μ-loop r s₀ i₀ s i = 11 - i
 
-begin : (r : List Float) → Went 1 11 (order r) (start r) 1 (record { a = set (replicate 11 (ofBits binary64 0)) 0 (ofBits binary64 4607182418800017408); error = getD r 0 nan; k2 = ofBits binary32 0; stopped = false })
+-- order 0, as the code writes it
+abbrev begun : List Float → Recursion
+begun r = record {
+  a = set (replicate 11 (ofBits binary64 0)) 0 (ofBits binary64 4607182418800017408);
+  error = getD r 0 nan;
+  k2 = ofBits binary32 0;
+  stopped = false;
+}
+
+begin : (r : List Float) → Went 1 11 (order r) (start r) 1 (begun r)
 unfolding start single double round ofBits
 begin r = went-none 1 11 (order r) (start r) (lit≤ tt)
 

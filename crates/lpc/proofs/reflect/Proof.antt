@@ -22,11 +22,13 @@ Inv-loop r i a error acc₀ j₀ acc j = Went 1 i (term r a i) (getD r i nan) j 
 abbrev μ-loop : tie.MeasureT-loop
 μ-loop r i a error acc₀ j₀ acc j = i - j
 
-more : (r a : List Float) (i j : ℕ) (acc : Float) → j < i → Went 1 i (term r a i) (getD r i nan) j acc → Went 1 i (term r a i) (getD r i nan) (j + 1) (acc ⊞ getD a j nan ⊠ getD r (i - j) nan)
+more : (r a : List Float) (i j : ℕ) (acc : Float) → j < i → Went 1 i (term r a i) (getD r i nan) j acc →
+    Went 1 i (term r a i) (getD r i nan) (j + 1) (acc ⊞ getD a j nan ⊠ getD r (i - j) nan)
 unfolding term
-more r a i j acc h w = went-more 1 i (term r a i) (getD r i nan) j acc (acc ⊞ getD a j nan ⊠ getD r (i - j) nan) h refl w
+more r a i j acc h w = went-more 1 i (term r a i) (getD r i nan) j acc (term r a i j acc) h refl w
 
-all : (r a : List Float) (i j : ℕ) (acc e : Float) → i ≤ j → Went 1 i (term r a i) (getD r i nan) j acc → neg acc ⧄ e ≡ reflection r i a e
+all : (r a : List Float) (i j : ℕ) (acc e : Float) → i ≤ j → Went 1 i (term r a i) (getD r i nan) j acc →
+    neg acc ⧄ e ≡ reflection r i a e
 unfolding term reflection
 all r a i j acc e h w = ap (λ (x : Float). neg x ⧄ e) (went-all 1 i (term r a i) (getD r i nan) j acc h w)
 

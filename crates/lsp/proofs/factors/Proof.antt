@@ -20,11 +20,13 @@ Inv-loop f c₀ m₀ c m = Filled 6 (factor f) m c × (1 ≤ m)
 abbrev μ-loop : tie.MeasureT-loop
 μ-loop f c₀ m₀ c m = 6 - m
 
-first : (f : List Float) (v : Float) → v ≡ getD f 5 nan → Filled 6 (factor f) 1 (set (replicate 6 (ofBits binary64 0)) 0 (v ⊠ ofBits binary64 4602678819172646912))
+first : (f : List Float) (v : Float) → v ≡ getD f 5 nan →
+    Filled 6 (factor f) 1 (set (replicate 6 (ofBits binary64 0)) 0 (v ⊠ ofBits binary64 4602678819172646912))
 unfolding factor double round ofBits
 first f v e =
-    filled-more 6 (factor f) 0 (replicate 6 (ofBits binary64 0)) (v ⊠ ofBits binary64 4602678819172646912) (lit< tt) (rw e)
-    (filled-none 6 (factor f) (replicate 6 (ofBits binary64 0)) refl)
+    let zeros = replicate 6 (ofBits binary64 0) in
+    filled-more 6 (factor f) 0 zeros (v ⊠ ofBits binary64 4602678819172646912) (lit< tt) (rw e)
+    (filled-none 6 (factor f) zeros refl)
 
 -- what one turn stores
 turn : (f : List Float) (m : ℕ) (v : Float) → 1 ≤ m → v ≡ getD f (5 - m) nan → v ≡ factor f m

@@ -27,11 +27,13 @@ none : (x : List Float) → Holding x 1 true
 unfolding falling
 none x = record { least = lit≤ tt; most = lit≤ tt; so-far = refl }
 
-one-more : (x : List Float) (n : ℕ) (falls : Bool) → falls ≡ falling n x → falls && lt (getD x (suc n) nan) (getD x n nan) ≡ falling (suc n) x
+one-more : (x : List Float) (n : ℕ) (falls : Bool) → falls ≡ falling n x →
+    falls && lt (getD x (suc n) nan) (getD x n nan) ≡ falling (suc n) x
 unfolding falling
 one-more x n falls e = rw e
 
-more : (x : List Float) (k : ℕ) (falls : Bool) → k < 10 → Holding x k falls → Holding x (k + 1) (falls && lt (getD x k nan) (getD x (k - 1) nan))
+more : (x : List Float) (k : ℕ) (falls : Bool) → k < 10 → Holding x k falls →
+    Holding x (k + 1) (falls && lt (getD x k nan) (getD x (k - 1) nan))
 more x k falls h r =
     let s : suc (k - 1) ≡ k = omega (arith, r .least) in
     let t : k + 1 - 1 ≡ k = omega arith in

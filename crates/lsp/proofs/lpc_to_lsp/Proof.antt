@@ -1,4 +1,5 @@
--- `lsp::lpc_to_lsp` meets its contract: the check's number is the definition's, and the sides are made one after the other, then paired.
+-- `lsp::lpc_to_lsp` meets its contract: the check's number is the definition's, and the sides are made one after the
+-- other, then paired.
 -- Assumes nothing.
 use mathlib.Core.Path.{_≡_}
 use mathlib.Core.List.{List}
@@ -14,7 +15,8 @@ use Rattle.lsp.proofs.lpc_to_lsp.Tie as tie
 
 -- the sides' sums f and g and their factors c and d, by what the calls ensure
 made : (a f g c d : List Float) (v : Lines) → f ≡ table 6 (seeded (plusNext a)) → g ≡ table 6 (seeded (minusNext a)) →
-    c ≡ table 6 (factor f) → d ≡ table 6 (factor g) → v ≡ paired c d → v ≡ paired (chebyshev (plusNext a)) (chebyshev (minusNext a))
+    c ≡ table 6 (factor f) → d ≡ table 6 (factor g) → v ≡ paired c d →
+    v ≡ paired (chebyshev (plusNext a)) (chebyshev (minusNext a))
 unfolding chebyshev
 made a f g c d v p q r s e = rw (e, r, s, p, q)
 

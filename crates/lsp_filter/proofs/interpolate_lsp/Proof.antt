@@ -1,4 +1,5 @@
--- `lsp_filter::interpolate_lsp` meets its contract: the check's number is the definition's, so each return is the refusal with it, or the weighed cosines.
+-- `lsp_filter::interpolate_lsp` meets its contract: the check's number is the definition's, so each return is the
+-- refusal with it, or the weighed cosines.
 -- Assumes nothing.
 use Rattle.float.proofs.Refusal.{answer-refused, answer-done, lines-done}
 use Rattle.lsp_filter.specs.Interpolate.{interpolateLsp}

@@ -20,7 +20,8 @@ Inv-loop p q a₀ i₀ a i = Filled 11 (halfSum p q) i a × (1 ≤ i)
 abbrev μ-loop : tie.MeasureT-loop
 μ-loop p q a₀ i₀ a i = 11 - i
 
-first : (p q : List Float) → Filled 11 (halfSum p q) 1 (set (replicate 11 (ofBits binary32 0)) 0 (ofBits binary32 1065353216))
+first : (p q : List Float) →
+    Filled 11 (halfSum p q) 1 (set (replicate 11 (ofBits binary32 0)) 0 (ofBits binary32 1065353216))
 unfolding halfSum single round ofBits
 first p q =
     filled-more 11 (halfSum p q) 0 (replicate 11 (ofBits binary32 0)) (ofBits binary32 1065353216) (lit< tt) refl

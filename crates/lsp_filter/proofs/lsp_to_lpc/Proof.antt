@@ -1,4 +1,5 @@
--- `lsp_filter::lsp_to_lpc` meets its contract: the check's number is the definition's, and the filter is the half sum of the two sides.
+-- `lsp_filter::lsp_to_lpc` meets its contract: the check's number is the definition's, and the filter is the half sum
+-- of the two sides.
 -- Assumes nothing.
 use mathlib.Core.Path.{_≡_}
 use mathlib.Core.List.{List}
@@ -13,7 +14,8 @@ use Rattle.lsp_filter.proofs.lsp_to_lpc.Tie as tie
 
 -- the sides p and q and their half sum v, by what the calls ensure
 done : (lsp p q v : List Float) → p ≡ side lsp 0 → q ≡ side lsp 1 → v ≡ table 11 (halfSum p q) →
-    _≡_ {A = LpcCoefficients} (record { status = 0; a = v }) (record { status = 0; a = table 11 (halfSum (side lsp 0) (side lsp 1)) })
+    _≡_ {A = LpcCoefficients} (record { status = 0; a = v })
+    (record { status = 0; a = table 11 (halfSum (side lsp 0) (side lsp 1)) })
 done lsp p q v r s e = rw (e, r, s)
 
 pub lsp-to-lpc-spec : {M : Type 1} → statement M

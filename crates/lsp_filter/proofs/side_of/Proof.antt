@@ -24,11 +24,13 @@ Inv-loop lsp s p₀ k₀ p k = Went 0 5 (turn lsp s) one k p
 abbrev μ-loop : tie.MeasureT-loop
 μ-loop lsp s p₀ k₀ p k = 5 - k
 
-begin : (lsp : List Float) (s : ℕ) → Went 0 5 (turn lsp s) one 0 (set (replicate 11 (ofBits binary32 0)) 0 (ofBits binary32 1065353216))
+begin : (lsp : List Float) (s : ℕ) →
+    Went 0 5 (turn lsp s) one 0 (set (replicate 11 (ofBits binary32 0)) 0 (ofBits binary32 1065353216))
 unfolding one single round ofBits
 begin lsp s = went-none 0 5 (turn lsp s) one zero-le
 
-more : (lsp : List Float) (s : ℕ) {k : ℕ} {p t : List Float} → k < 5 → t ≡ quadratic (2 * k + 2) (getD lsp (2 * k + s) nan) p →
+more : (lsp : List Float) (s : ℕ) {k : ℕ} {p t : List Float} → k < 5 →
+    t ≡ quadratic (2 * k + 2) (getD lsp (2 * k + s) nan) p →
     Went 0 5 (turn lsp s) one k p → Went 0 5 (turn lsp s) one (k + 1) t
 unfolding turn
 more lsp s {k} {p} {t} h e w = went-more 0 5 (turn lsp s) one k p t h e w

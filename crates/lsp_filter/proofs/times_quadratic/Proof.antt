@@ -1,4 +1,5 @@
--- `lsp_filter::times_quadratic` meets its contract: the places above i are new and those up to i are old, so that each new one is made of old ones. Assumes nothing.
+-- `lsp_filter::times_quadratic` meets its contract: the places above i are new and those up to i are old, so that
+-- each new one is made of old ones. Assumes nothing.
 use Rattle.lsp_filter.proofs.InPlace.{Lowered, lowered-none, lowered-more, lowered-all}
 use borrow.Author.Needs.{needs}
 use Rattle.lsp_filter.proofs.times_quadratic.Statement.{statement}

@@ -27,13 +27,15 @@ abbrev μ-loop : tie.MeasureT-loop
 μ-loop t cosines out₀ i₀ out i = 10 - i
 
 -- a step that has an angle
-counted : (cosines : List Float) (i k : ℕ) → all finite cosines ≡ true → i < length cosines → k ≡ step (held (at cosines i)) → k ≤ 2 ^ 24
+counted : (cosines : List Float) (i k : ℕ) → all finite cosines ≡ true → i < length cosines →
+    k ≡ step (held (at cosines i)) → k ≤ 2 ^ 24
 counted cosines i k h l e = rw e (step-held (at cosines i) (all-at finite cosines (subst T (sym h) tt) i nan l) .1)
 
 found : (x r : Float) (k : ℕ) → k ≡ step (held x) → r ≡ angle k → r ≡ angleOf x
 found x r k e f = f ∙ ap angle e
 
-done : (cosines out : List Float) (i : ℕ) → length cosines ≡ 10 → 10 ≤ i → Filled 10 (λ k. angleOf (at cosines k)) i out → out ≡ map angleOf cosines
+done : (cosines out : List Float) (i : ℕ) → length cosines ≡ 10 → 10 ≤ i →
+    Filled 10 (λ k. angleOf (at cosines k)) i out → out ≡ map angleOf cosines
 done cosines out i l h r = filled-map angleOf cosines nan 10 i out l h r
 
 pub angles-of-spec : {M : Type 1} → statement M

@@ -48,6 +48,12 @@ clamp-spec =
     -- array-write-omega-2
     (λ c. search needs)
     -- returns
-    (λ c. ⊎-elim (λ w. search (last-lowered, first-raised)) (λ w. search (last-lowered, first-kept)) (c .before .if1 .came))
+    (λ c. ⊎-elim
+    (λ w. search (last-lowered, first-raised))
+    (λ w. search (last-lowered, first-kept))
+    (c .before .if1 .came))
     -- returns-2
-    (λ c. ⊎-elim (λ w. search (last-kept, first-raised)) (λ w. search (last-kept, first-kept)) (c .before .if1 .came)))
+    (λ c. ⊎-elim
+    (λ w. search (last-kept, first-raised))
+    (λ w. search (last-kept, first-kept))
+    (c .before .if1 .came)))

@@ -24,13 +24,15 @@ abbrev μ-loop : tie.MeasureT-loop
 μ-loop t angles out₀ i₀ out i = 10 - i
 
 -- each angle is within the bound of its step
-near : (angles : List Float) (i : ℕ) → anyExceeds (power 4) angles ≡ false → i < length angles → exceeds (power 4) (at angles i) ≡ false
+near : (angles : List Float) (i : ℕ) → anyExceeds (power 4) angles ≡ false → i < length angles →
+    exceeds (power 4) (at angles i) ≡ false
 near angles i h l = any-at (exceeds (power 4)) angles h i nan l
 
 found : (a r : Float) (k : ℕ) → k ≡ stepOfAngle a → r ≡ cosineSingle k → r ≡ cosineOf a
 found a r k e f = f ∙ ap cosineSingle e
 
-done : (angles out : List Float) (i : ℕ) → length angles ≡ 10 → 10 ≤ i → Filled 10 (λ k. cosineOf (at angles k)) i out → out ≡ map cosineOf angles
+done : (angles out : List Float) (i : ℕ) → length angles ≡ 10 → 10 ≤ i →
+    Filled 10 (λ k. cosineOf (at angles k)) i out → out ≡ map cosineOf angles
 done angles out i l h r = filled-map cosineOf angles nan 10 i out l h r
 
 pub cosines-of-spec : {M : Type 1} → statement M

@@ -1,4 +1,5 @@
--- `stability::enforce_lsp_stability` meets its contract: the check's number is the definition's, so each return is the refusal with it, or the procedure.
+-- `stability::enforce_lsp_stability` meets its contract: the check's number is the definition's, so each return is
+-- the refusal with it, or the procedure.
 -- Assumes nothing.
 use borrow.Author.Needs.{needs}
 use mathlib.Core.Path.{_≡_}

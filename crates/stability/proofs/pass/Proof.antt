@@ -21,7 +21,8 @@ abbrev state : List Float → Bool → Settled
 state ω b = record { angles = ω; converged = b }
 
 abbrev Inv-loop : tie.InvT-loop
-Inv-loop delta half tol omega₀ converged₀ j₀ omega converged j = Went 0 9 (spread delta) (state omega₀ true) j (state omega converged)
+Inv-loop delta half tol omega₀ converged₀ j₀ omega converged j =
+    Went 0 9 (spread delta) (state omega₀ true) j (state omega converged)
 
 abbrev μ-loop : tie.MeasureT-loop
 μ-loop delta half tol omega₀ converged₀ j₀ omega converged j = 9 - j
@@ -47,7 +48,8 @@ same-move delta ω j = rw add-one
 abbrev Done : Float → List Float → ℕ → Settled → Type 0
 Done delta ω₀ j s = Went 0 9 (spread delta) (state ω₀ true) j s
 
-module _ (delta : Float) (ω₀ ω ω' : List Float) (b b' : Bool) (j : ℕ) (h : j < 9) (r : Done delta ω₀ j (state ω b)) where
+module _ (delta : Float) (ω₀ ω ω' : List Float) (b b' : Bool) (j : ℕ) (h : j < 9)
+    (r : Done delta ω₀ j (state ω b)) where
   parted : tested delta ω j ≡ true → ω' ≡ moved delta ω j → b' ≡ false → Done delta ω₀ (j + 1) (state ω' b')
   unfolding spread
   parted e f g =

@@ -19,8 +19,10 @@ use Rattle.stability.proofs.Bounded.{stable-room}
 use Rattle.stability.proofs.stabilise.Statement.{statement}
 use Rattle.stability.proofs.stabilise.Tie as tie
 
--- the calls, one after the other: the spacing delta, the angles ω of the cosines c, the settled s of them, and those clamped, ω'
-module _ (c ω ω' : List Float) (hz delta : Float) (s : Settled) (d : delta ≡ spacing hz) (a : ω ≡ map angleOf c) (e : s ≡ settled delta ω) (f : ω' ≡ clamped delta (s .angles)) where
+-- the calls, one after the other: the spacing delta, the angles ω of the cosines c, the settled s of them, and those
+-- clamped, ω'
+module _ (c ω ω' : List Float) (hz delta : Float) (s : Settled) (d : delta ≡ spacing hz) (a : ω ≡ map angleOf c)
+    (e : s ≡ settled delta ω) (f : ω' ≡ clamped delta (s .angles)) where
   made : _≡_ {A = Settled} (record { angles = ω'; converged = s .converged }) (stable (spacing hz) (map angleOf c))
   unfolding stable
   made = rw (f, e, a, d)
@@ -31,7 +33,8 @@ module _ (c ω ω' : List Float) (hz delta : Float) (s : Settled) (d : delta ≡
       ∙ stable-room c hz n (subst T (sym p) tt) (subst T (sym q) tt) o
 
   answered : (r : List Float) → r ≡ map cosineOf ω' →
-      _≡_ {A = Stabilised} (record { status = 0; cosines = r; converged = s .converged }) (done (stable (spacing hz) (map angleOf c)))
+      _≡_ {A = Stabilised} (record { status = 0; cosines = r; converged = s .converged })
+      (done (stable (spacing hz) (map angleOf c)))
   answered r h = rw h (ap done made)
 
 pub stabilise-spec : {M : Type 1} → statement M
