@@ -4,7 +4,7 @@
 -- §2.4; document 01, B9 and B10. Assumes nothing.
 use Prim.Native.Nat.{ℕ, _-_}
 use mathlib.Core.Bool.{Bool, true, false, cond, _&&_}
-use mathlib.Core.List.{List, [], _∷_}
+use mathlib.Core.List.{List, _∷_}
 use lib.Dec.{eqb, leb, ltb}
 use lib.Ieee.{Float, nan, lt, le, neg}
 use lib.ListN.{getD, replicate}

@@ -1,8 +1,7 @@
 -- `lpc::levinson` meets its contract: up to i the state is the recursion's. Assumes nothing.
-use mathlib.Core.Path.{_≡_, refl, _∙_}
+use mathlib.Core.Path.{_≡_}
 use mathlib.Core.Bool.{false}
-use mathlib.Core.List.{List, [], _∷_}
-use native.Mathlib.Omega.{arith}
+use mathlib.Core.List.{List}
 use Prim.Native.Nat.{ℕ, _-_, _≤_}
 use lib.Dec.{lit≤}
 use lib.Ieee.{Float, nan, binary32, binary64, ofBits, round}

@@ -4,7 +4,6 @@ use mathlib.Core.List.{List}
 use Prim.Native.Nat.{ℕ, _+_, _-_, _≤_, _<_}
 use lib.Ieee.{Float, nan, neg}
 use lib.ListN.{getD}
-use Rattle.float.specs.Loop.{over}
 use Rattle.float.specs.Double.{_⊞_, _⊠_, _⧄_}
 use Rattle.float.proofs.Loop.{Went, went-none, went-more, went-all}
 use Rattle.lpc.specs.Levinson.{reflection}

@@ -1,7 +1,7 @@
 -- `lpc::set_of` meets its contract: each return is one case of the definition. Assumes nothing.
 use mathlib.Core.Path.{_≡_, sym}
 use mathlib.Core.Bool.{true, false}
-use mathlib.Core.List.{List, [], _∷_}
+use mathlib.Core.List.{List}
 use lib.Ieee.{Float, nan, binary32, binary64, ofBits, round, le}
 use lib.ListN.{getD, set, replicate}
 use Rattle.float.specs.Table.{table}

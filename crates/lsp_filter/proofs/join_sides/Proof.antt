@@ -4,7 +4,7 @@ use mathlib.Core.List.{List}
 use Prim.Native.Nat.{ℕ, _+_, _-_, _≤_, _<_}
 use borrow.Author.Tests.{ne-eqb}
 use native.Mathlib.Omega.{arith}
-use lib.Dec.{eqb, lit<}
+use lib.Dec.{lit<}
 use lib.Ieee.{Float, nan, binary32, ofBits, round}
 use lib.ListN.{getD, set, replicate}
 use Rattle.float.specs.Single.{_⊕_, _⊖_, _⊗_, single}

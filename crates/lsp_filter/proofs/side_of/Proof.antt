@@ -1,8 +1,7 @@
 -- `lsp_filter::side_of` meets its contract: up to k the quadratics have been multiplied. Assumes nothing.
-use mathlib.Core.Path.{_≡_, refl}
-use mathlib.Core.List.{List, [], _∷_}
+use mathlib.Core.Path.{_≡_}
+use mathlib.Core.List.{List, _∷_}
 use Prim.Native.Nat.{ℕ, zero-le, _+_, _-_, _*_, _≤_, _<_}
-use native.Mathlib.Omega.{arith}
 use lib.Ieee.{Float, nan, binary32, ofBits, round}
 use lib.ListN.{getD, set, replicate}
 use Rattle.float.specs.Single.{single}

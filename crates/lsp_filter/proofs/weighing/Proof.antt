@@ -5,7 +5,6 @@ use lib.Ieee.{binary32, ofBits, round}
 use Rattle.float.specs.Single.{single}
 use Rattle.lsp_filter.specs.declared.Weights.{Weights}
 use Rattle.lsp_filter.specs.Interpolate.{previousWeight, currentWeight}
-use borrow.Author.Needs.{needs}
 use Rattle.lsp_filter.proofs.weighing.Statement.{statement}
 use Rattle.lsp_filter.proofs.weighing.Tie as tie
 

@@ -1,7 +1,7 @@
 -- `stability::stabilise` meets its contract: no angle is too large for exact arithmetic. Assumes nothing.
 use borrow.Author.Needs.{needs}
 use mathlib.Core.Path.{_≡_, sym, ap, _∙_, subst}
-use mathlib.Core.Bool.{Bool, true, false}
+use mathlib.Core.Bool.{true, false}
 use mathlib.Core.List.{List, map}
 use lib.Dec.{T}
 use lib.ListN.{length}
