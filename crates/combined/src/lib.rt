@@ -8,7 +8,7 @@ ghost use Rattle.float.specs.Finite.{notFinite};
 ghost use Rattle.float.specs.Refusal.{any};
 ghost use Rattle.float.specs.Single.{_⊖_, _⊗_};
 ghost use Rattle.float.specs.Table.{table};
-ghost use Rattle.weighting.specs.Line.{behind};
+ghost use Rattle.weighting.specs.speed.Delay.{behind};
 ghost use Rattle.combined.specs.Memory.{reach, atRest, shaped, floats};
 ghost use Rattle.combined.specs.Cascade.{settings, synthesised, cascaded};
 ghost use Rattle.combined.specs.Run.{done, refusal, runCombined};
@@ -74,13 +74,13 @@ fn start_history(p_hist: [f32; REACH]) -> [f32; REACH + 60]
     p
 }
 
-// All harmonic inputs: the history, and the samples of a delay line.
-fn harmonic_inputs(p_hist: [f32; REACH], line: [f32; 70]) -> [f32; REACH + 60]
-    ensures { λ r. ⌜ r ≡ «p_hist» ++ drop 10 line ⌝ }
+// All harmonic inputs: the history, and the samples of a delay.
+fn harmonic_inputs(p_hist: [f32; REACH], delay: [f32; 70]) -> [f32; REACH + 60]
+    ensures { λ r. ⌜ r ≡ «p_hist» ++ drop 10 delay ⌝ }
 {
     let mut p = start_history(p_hist);
     for i in 0..60 {
-        p[i + REACH] = line[i + 10];
+        p[i + REACH] = delay[i + 10];
     }
     p
 }
@@ -108,7 +108,7 @@ fn last_inputs(p: [f32; REACH + 60]) -> [f32; REACH]
     p_hist
 }
 
-// One subframe. Each stage has a delay line in which its samples replace those of the input, and nothing is moved until the subframe ends. Synthesis
+// One subframe. Each stage has a delay in which its samples replace those of the input, and nothing is moved until the subframe ends. Synthesis
 // is one sample ahead of the weighting, so that the two sums, each a chain of its own, run side by side.
 fn run(
     mem: CombinedMem,
@@ -126,9 +126,9 @@ fn run(
     let wz_mem = mem.wz;
     let wp_mem = mem.wp;
     let p_hist = mem.p_hist;
-    let mut syn = weighting::delay_line(syn_mem, &input);
-    let mut xs = weighting::delay_line(wz_mem, &input);
-    let mut fs = weighting::delay_line(wp_mem, &input);
+    let mut syn = weighting::delayed(syn_mem, &input);
+    let mut xs = weighting::delayed(wz_mem, &input);
+    let mut fs = weighting::delayed(wp_mem, &input);
     let x = syn[10];
     let s = synthesise_sample(x, 0, &aq, &syn);
     syn[10] = s;
