@@ -3,4 +3,3 @@ pub mod Harmonic
 pub mod History
 pub mod Stages
 pub mod Cascaded
-pub mod Kept

@@ -5,13 +5,14 @@ ghost use mathlib.Core.List.{_∷_, [], _++_};
 ghost use Prim.Native.Nat.{_<_, _≤_};
 ghost use lib.ListN.{take, drop};
 ghost use Rattle.float.specs.Finite.{notFinite};
-ghost use Rattle.float.specs.Refusal.{any};
+ghost use Rattle.float.specs.Refusal.{any, first};
 ghost use Rattle.float.specs.Single.{_⊖_, _⊗_};
 ghost use Rattle.float.specs.Table.{table};
 ghost use Rattle.weighting.specs.speed.Delay.{behind};
-ghost use Rattle.combined.specs.Memory.{reach, atRest, shaped, floats};
+ghost use Rattle.combined.specs.Memory.{reach, atRest, floats};
 ghost use Rattle.combined.specs.Cascade.{settings, synthesised, cascaded};
-ghost use Rattle.combined.specs.Run.{done, refusal, runCombined};
+ghost use Rattle.combined.specs.Run.{done, refusal, combinedRefusals, runCombined};
+ghost use Rattle.combined.specs.speed.Shaped.{shaped};
 
 // How many harmonic inputs the history holds: the longest lag.
 pub const REACH: usize = 145;
@@ -42,6 +43,12 @@ pub struct Combined {
     pub status: u32,
     pub out: [f32; 60],
     pub mem: CombinedMem,
+}
+
+// The answer without the memory: where that is lent, or the filter starts from rest.
+pub struct CombinedOut {
+    pub status: u32,
+    pub out: [f32; 60],
 }
 
 // A product taken from a sum.
@@ -198,8 +205,32 @@ fn given_finite(input: [f32; 60], aq: [f32; 11], wz: [f32; 10], wp: [f32; 10], b
     float::all_finite(&input) & (float::all_finite(&aq) & taps)
 }
 
-// One subframe through the filter. The memory comes back; on a refusal it is as given. The floats are tested after the filter has run and before anything
-// is answered, as in `weighting::weight_subframe`, while its last sums come in.
+// The first refusal due: 4 for a lag outside 18..145; 5 for any float.
+fn check_combined(
+    mem: CombinedMem,
+    input: [f32; 60],
+    aq: [f32; 11],
+    wz: [f32; 10],
+    wp: [f32; 10],
+    lag: u32,
+    beta: f32,
+) -> u32
+    ensures { λ r. ⌜ r ≡ first (combinedRefusals (settings aq wz wp lag beta) input mem) ⌝ }
+{
+    if lag < 18 {
+        return 4;
+    }
+    if lag > 145 {
+        return 4;
+    }
+    let finite = memory_finite(mem) & given_finite(input, aq, wz, wp, beta);
+    if !finite {
+        return 5;
+    }
+    0
+}
+
+// One subframe through the filter. The memory comes back; on a refusal it is as given.
 pub fn run_combined(
     mem: CombinedMem,
     input: [f32; 60],
@@ -211,18 +242,9 @@ pub fn run_combined(
 ) -> Combined
     ensures { λ r. ⌜ r ≡ runCombined (settings aq wz wp lag beta) input mem ⌝ }
 {
-    if lag < 18 {
-        return refused(4, mem);
+    let status = check_combined(mem, input, aq, wz, wp, lag, beta);
+    if status != 0 {
+        return refused(status, mem);
     }
-    if lag > 145 {
-        return refused(4, mem);
-    }
-    let after = run(mem, input, aq, wz, wp, lag, beta);
-    let held = memory_finite(mem);
-    let given = given_finite(input, aq, wz, wp, beta);
-    let finite = held & given;
-    if !finite {
-        return refused(5, mem);
-    }
-    after
+    run(mem, input, aq, wz, wp, lag, beta)
 }

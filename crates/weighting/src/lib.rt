@@ -1,8 +1,11 @@
 // The formant perceptual weighting filter (§2.8): its taps, and one subframe through it.
 ghost use mathlib.Core.Path.{_≡_};
+ghost use mathlib.Core.Bool.{not};
+ghost use mathlib.Core.List.{[], _∷_};
 ghost use Prim.Native.Nat.{_<_};
 ghost use lib.ListN.{length};
-ghost use Rattle.float.specs.Refusal.{first};
+ghost use Rattle.float.specs.Finite.{notFinite};
+ghost use Rattle.float.specs.Refusal.{any, first};
 ghost use Rattle.float.specs.Single.{_⊕_, _⊖_, _⊗_};
 ghost use Rattle.weighting.specs.Taps.{taps, refusedTaps, weightingTaps};
 ghost use Rattle.weighting.specs.Filter.{weighted, filtered, done, refusal, subframeRefusals, weightSubframe};
@@ -170,6 +173,17 @@ fn refused(status: u32, x_mem: [f32; 10], f_mem: [f32; 10]) -> Weighted
     }
 }
 
+fn given_finite(x: &[f32], wz: [f32; 10], wp: [f32; 10], x_mem: [f32; 10], f_mem: [f32; 10]) -> bool
+    ensures { λ r. ⌜ r ≡ not (any notFinite (now (x .entry) ∷ wz ∷ wp ∷ «x_mem» ∷ «f_mem» ∷ [])) ⌝ }
+{
+    let signal = float::all_finite(x);
+    let zeros = float::all_finite(&wz);
+    let poles = float::all_finite(&wp);
+    let inputs = float::all_finite(&x_mem);
+    let outputs = float::all_finite(&f_mem);
+    signal & (zeros & (poles & (inputs & outputs)))
+}
+
 // The first refusal due: 1 if not 60 samples; 5 for any float.
 fn check_subframe(
     x: &[f32],
@@ -183,10 +197,7 @@ fn check_subframe(
     if x.len() != 60 {
         return 1;
     }
-    let memories = float::all_finite(&x_mem) & float::all_finite(&f_mem);
-    let taps = float::all_finite(&wz) & (float::all_finite(&wp) & memories);
-    let finite = float::all_finite(x) & taps;
-    if !finite {
+    if !given_finite(x, wz, wp, x_mem, f_mem) {
         return 5;
     }
     0

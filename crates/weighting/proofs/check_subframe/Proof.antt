@@ -10,25 +10,9 @@ check-subframe-spec =
     (tie.spec
     -- returns
     (λ c. search checks)
-    -- slice-aggregate-all-finite
-    (λ c. search needs)
-    -- all-finite-requires
-    (λ c κs. search needs)
-    -- slice-aggregate-all-finite-2
-    (λ c. search needs)
-    -- all-finite-requires-2
-    (λ c κs. search needs)
-    -- slice-aggregate-all-finite-3
-    (λ c. search needs)
-    -- all-finite-requires-3
-    (λ c κs. search needs)
-    -- slice-aggregate-all-finite-4
-    (λ c. search needs)
-    -- all-finite-requires-4
-    (λ c κs. search needs)
-    -- all-finite-requires-5
+    -- given-finite-requires
     (λ c κs. search needs)
     -- returns-2
-    (λ c. search (checks, joined) depth 9)
+    (λ c. search (checks, joined))
     -- returns-3
-    (λ c. search (checks, joined) depth 9))
+    (λ c. search (checks, joined)))
