@@ -16,7 +16,8 @@ use Rattle.float.proofs.Table.{at-table}
 use Rattle.float.proofs.Loop.{Went, same-times}
 use Rattle.float.proofs.Blocks.{went-on}
 use Rattle.lags.specs.declared.Best.{Best}
-use Rattle.lags.specs.Lags.{cross, delayed, power}
+use Rattle.lags.specs.Lags.{cross, power}
+use Rattle.lags.specs.speed.Delayed.{delayed}
 use Rattle.lags.specs.Search.{Rule, offered}
 
 -- the squares, as the code keeps them

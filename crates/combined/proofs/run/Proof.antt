@@ -1,4 +1,4 @@
--- `combined::run` meets its contract: after n turns the lines are those of n samples, synthesis one ahead. Assumes nothing.
+-- `combined::run` meets its contract: after n turns the delays are those of n samples, synthesis one ahead. Assumes nothing.
 use borrow.Author.Needs.{needs}
 use mathlib.Core.Path.{refl}
 use Prim.Native.Nat.{_-_}
@@ -8,7 +8,7 @@ use Rattle.combined.proofs.Cascaded.{Cascaded, held, cascaded-none, cas
 use Rattle.combined.proofs.run.Statement.{statement}
 use Rattle.combined.proofs.run.Tie as tie
 
--- the memory is the one that the lines start with, and the input stands in the line that no sample is stored in before the loop
+-- the memory is the one that the delays start with, and the input stands in the delay that no sample is stored in before the loop
 abbrev Inv-loop : tie.InvT-loop
 Inv-loop lag beta aq wz wp p-hist syn₀ xs₀ fs₀ x s n₀ syn xs fs n = Cascaded (settings aq wz wp lag beta) (drop 10 fs₀) (held p-hist syn₀ xs₀ fs₀) n syn xs fs
 
@@ -21,17 +21,17 @@ run-spec =
     (tie.spec
     Inv-loop
     μ-loop
-    -- slice-aggregate-delay-line
+    -- slice-aggregate-delayed
     (λ c. search needs)
-    -- delay-line-requires
+    -- delayed-requires
     (λ c κs. search needs)
-    -- slice-aggregate-delay-line-2
+    -- slice-aggregate-delayed-2
     (λ c. search needs)
-    -- delay-line-requires-2
+    -- delayed-requires-2
     (λ c κs. search needs)
-    -- slice-aggregate-delay-line-3
+    -- slice-aggregate-delayed-3
     (λ c. search needs)
-    -- delay-line-requires-3
+    -- delayed-requires-3
     (λ c κs. search needs)
     -- array-read-x
     (λ c. search needs)
@@ -42,7 +42,7 @@ run-spec =
     -- array-write-xs
     (λ c. search needs)
     -- loop-holds
-    (λ c. cascaded-none _ _ _ _ _ _ (c .before .before .before .before .before .before .before .delay-line .ensures) (c .before .before .before .before .before .delay-line2 .ensures) (c .before .before .before .delay-line3 .ensures) _ (search needs) (c .synthesise-sample .ensures))
+    (λ c. cascaded-none _ _ _ _ _ _ (c .before .before .before .before .before .before .before .delayed .ensures) (c .before .before .before .before .before .delayed2 .ensures) (c .before .before .before .delayed3 .ensures) _ (search needs) (c .synthesise-sample .ensures))
     -- add-s
     (λ c. search needs)
     -- mul-s
@@ -104,5 +104,5 @@ run-spec =
     -- last-inputs-requires
     (λ c κs. search needs)
     -- returns
-    (λ c. cascaded-end _ _ _ _ _ _ _ _ _ _ _ _ _ _ _ _ _ _ _ (c .before .before .before .before .before .before .before .before .before .before .before .before .before .before .before .before .before .before .before .before .before .before .before .before .before .before .before .before .before .pre .0) (c .before .before .before .before .before .before .before .before .before .before .before .before .before .before .before .before .before .before .before .before .before .before .before .delay-line .ensures) (c .before .before .before .before .before .before .before .before .before .before .before .before .before .before .before .before .before .before .before .before .before .delay-line2 .ensures) (c .before .before .before .before .before .before .before .before .before .before .before .before .before .before .before .before .before .before .before .delay-line3 .ensures) (c .before .before .before .before .before .before .before .before .before .before .before .before .before .before .loop-test .left) refl (c .before .before .before .before .before .before .before .before .before .weight-sample2 .ensures)
+    (λ c. cascaded-end _ _ _ _ _ _ _ _ _ _ _ _ _ _ _ _ _ _ _ (c .before .before .before .before .before .before .before .before .before .before .before .before .before .before .before .before .before .before .before .before .before .before .before .before .before .before .before .before .before .pre .0) (c .before .before .before .before .before .before .before .before .before .before .before .before .before .before .before .before .before .before .before .before .before .before .before .delayed .ensures) (c .before .before .before .before .before .before .before .before .before .before .before .before .before .before .before .before .before .before .before .before .before .delayed2 .ensures) (c .before .before .before .before .before .before .before .before .before .before .before .before .before .before .before .before .before .before .before .delayed3 .ensures) (c .before .before .before .before .before .before .before .before .before .before .before .before .before .before .loop-test .left) refl (c .before .before .before .before .before .before .before .before .before .weight-sample2 .ensures)
     (c .before .before .before .before .before .before .before .before .harmonic-inputs .ensures) (c .before .before .before .before .before .before .before .shape .ensures) (c .before .before .before .before .before .last-ten .ensures) (c .before .before .before .last-ten2 .ensures) (c .before .last-ten3 .ensures) (c .last-inputs .ensures) (c .before .before .before .before .before .before .before .before .before .before .before .before .before .before .before .loop .inv)))

@@ -46,15 +46,14 @@ use denote.Triple.Walked.{says, Stays, stay-dropped, walkOf, AllGo, Walks, ends-
 use denote.Exit.{yes}
 use Rattle.combined.specs.declared.CombinedMem.{CombinedMem}
 use Rattle.combined.specs.declared.Combined.{Combined}
-use Rattle.combined_lent.specs.declared.CombinedOut.{CombinedOut}
-use Rattle.combined.specs.Run.{runCombined}
-use Rattle.combined_lent.specs.Answered.{answered}
+use Rattle.combined.specs.declared.CombinedOut.{CombinedOut}
+use Rattle.combined.specs.Run.{runCombined, answered}
 use Rattle.combined.proofs.CombinedMem as T
 use Rattle.combined.proofs.CombinedMem.Laws as T′
 use Rattle.combined.proofs.Combined as R
 use Rattle.combined.proofs.Combined.Laws as R′
-use Rattle.combined_lent.proofs.CombinedOut as O
-use Rattle.combined_lent.proofs.CombinedOut.Laws as O′
+use Rattle.combined.proofs.CombinedOut as O
+use Rattle.combined.proofs.CombinedOut.Laws as O′
 use Rattle.combined_lent.proofs.Passed.{singles, mach, Values, setting, rows, machine, Fit, array-typed, own-values}
 use Rattle.combined_lent.proofs.run_combined_lent as lent
 use Rattle.combined_lent.proofs.run_combined_lent.Symbol as lent-def

@@ -66,12 +66,6 @@ compete-spec =
     -- loop-less
     (λ c. search needs)
     -- loop-again
-    (λ c. went-more _ _ _ _ _ _ _ (c .before .before .before .loop-test .taken)
-    (⊎-elim
-    (λ w. competes _ _ _ _ _ _ (w .0 .taken) (w .1 .taken) (w .2 .ensures) (w .3))
-    (⊎-elim
-    (λ w. no-power _ _ _ _ _ (w .0 .taken) (w .1 .left) (w .2))
-    (λ w. no-cross _ _ _ _ _ (w .0 .left) (w .1)))
-    (c .if1 .came)) (c .before .before .before .before .loop .inv))
+    (λ c. ⊎-elim (λ w. search (went-more, competes)) (⊎-elim (λ w. search (went-more, no-power)) (λ w. search (went-more, no-cross))) (c .if1 .came))
     -- returns
-    (λ c. went-all _ _ _ _ _ _ (c .loop-test .left) (c .before .loop .inv)))
+    (λ c. search went-all))

@@ -62,7 +62,7 @@ widen-spec =
     -- shared-slice-read-out
     (λ c. search needs)
     -- float-to-float-out
-    (λ c. castable _ (c .row-known .given) (all-at finite _ (c .before .before .before .before .pre .1 .1) _ nan (c .before .before .loop-test .taken)))
+    (λ c. castable _ (c .row-known .given) (search (all-at finite)))
     -- mul-out-2
     (λ c. search needs)
     -- element-write-out
@@ -72,6 +72,6 @@ widen-spec =
     -- loop-less
     (λ c. search needs)
     -- loop-again
-    (λ c. more _ _ _ _ _ (c .before .before .before .before .pre .1 .0) (c .before .before .loop-test .taken) refl (c .before .before .before .loop .inv))
+    (λ c. search more)
     -- returns
-    (λ c. all _ _ _ _ (c .loop-test .left) (c .before .loop .inv)))
+    (λ c. search all))

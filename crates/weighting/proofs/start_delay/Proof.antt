@@ -1,37 +1,37 @@
--- `weighting::start_line` meets its contract: after k turns the memory's last k values stand, the oldest first. Assumes nothing.
+-- `weighting::start_delay` meets its contract: after k turns the memory's last k values stand, the oldest first. Assumes nothing.
 use borrow.Author.Needs.{needs}
 use mathlib.Core.Path.{refl}
 use Prim.Native.Nat.{_-_, _≤_, zero-le}
 use native.Mathlib.Omega.{arith}
 use Rattle.float.proofs.Table.{Filled, filled-none, filled-more}
 use Rattle.float.specs.Vector.{at}
-use Rattle.weighting.proofs.Line.{behind-none}
-use Rattle.weighting.proofs.start_line.Statement.{statement}
-use Rattle.weighting.proofs.start_line.Tie as tie
+use Rattle.weighting.proofs.Delay.{behind-none}
+use Rattle.weighting.proofs.start_delay.Statement.{statement}
+use Rattle.weighting.proofs.start_delay.Tie as tie
 
 abbrev Inv-loop : tie.InvT-loop
-Inv-loop memory line₀ k₀ line k = (k ≤ 10) × Filled 70 (λ i. at memory (9 - i)) k line
+Inv-loop memory delay₀ k₀ delay k = (k ≤ 10) × Filled 70 (λ i. at memory (9 - i)) k delay
 
 abbrev μ-loop : tie.MeasureT-loop
-μ-loop memory line₀ k₀ line k = 10 - k
+μ-loop memory delay₀ k₀ delay k = 10 - k
 
-pub start-line-spec : {M : Type 1} → statement M
-start-line-spec =
+pub start-delay-spec : {M : Type 1} → statement M
+start-delay-spec =
     tie.close
     (tie.spec
     Inv-loop
     μ-loop
     -- loop-holds
     (λ c. (zero-le, filled-none 70 _ _ refl))
-    -- sub-line
+    -- sub-delay
     (λ c. search needs)
-    -- mul-line
+    -- mul-delay
     (λ c. search needs)
-    -- array-read-line
+    -- array-read-delay
     (λ c. search needs)
-    -- mul-line-2
+    -- mul-delay-2
     (λ c. search needs)
-    -- array-write-line
+    -- array-write-delay
     (λ c. search needs)
     -- add-k
     (λ c. search needs)

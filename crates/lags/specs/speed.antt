@@ -1,0 +1,3 @@
+-- What only serves the code's speed; no contract of an operation cites it.
+pub mod Four
+pub mod Delayed
