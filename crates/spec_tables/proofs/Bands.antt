@@ -21,17 +21,6 @@ row-fits Band0 index h = omega arith
 row-fits Band1 index h = omega arith
 row-fits Band2 index h = omega arith
 
--- the rows of a band end where the next one's begin, and the frequencies do
-pub band-fits : (b : LspBand) → firstRow b + 256 * placeOf b .length ≤ 2560
-band-fits Band0 = lit≤ tt
-band-fits Band1 = lit≤ tt
-band-fits Band2 = lit≤ tt
-
-pub ten-fits : (b : LspBand) → placeOf b .start + placeOf b .length ≤ 10
-ten-fits Band0 = lit≤ tt
-ten-fits Band1 = lit≤ tt
-ten-fits Band2 = lit≤ tt
-
 -- ---- the same of a place that the code has been given
 pub first-fits : (b : LspBand) {p : BandPlace} → p ≡ placeOf b → Fits w64 (256 * p .start)
 first-fits Band0 e = rw e (record { fits = lit< tt })
@@ -44,3 +33,13 @@ index-fits b {index = index} e h = rw e (record { fits = omega (arith, row-fits 
 pub place-fits : (b : LspBand) {p : BandPlace} {index first : ℕ} → first ≡ firstRow b → p ≡ placeOf b → index < 256 →
     Fits w64 (first + index * p .length)
 place-fits b {index = index} f e h = rw (e, f) (record { fits = omega (arith, row-fits b index h) })
+
+pub rows-within : (b : LspBand) {p : BandPlace} {first n : ℕ} → first ≡ firstRow b → p ≡ placeOf b → n ≡ 2560 → first + 256 * p .length ≤ n
+rows-within Band0 e f h = rw (e, f, h) (lit≤ tt)
+rows-within Band1 e f h = rw (e, f, h) (lit≤ tt)
+rows-within Band2 e f h = rw (e, f, h) (lit≤ tt)
+
+pub lines-within : (b : LspBand) {p : BandPlace} {n : ℕ} → p ≡ placeOf b → n ≡ 10 → p .start + p .length ≤ n
+lines-within Band0 e h = rw (e, h) (lit≤ tt)
+lines-within Band1 e h = rw (e, h) (lit≤ tt)
+lines-within Band2 e h = rw (e, h) (lit≤ tt)

@@ -7,7 +7,7 @@ use Prim.Native.Nat.{ℕ, zero, suc, _+_, _-_, _*_, _≤_, _<_}
 use native.Mathlib.Omega.{arith}
 use lib.IntN.{ℤ, pos}
 use lib.ListN.{length, take, drop, getD, replicate, length-drop}
-use lib.Seq.{getD-take, getD-drop, length-take-le}
+use lib.Seq.{getD-take, getD-drop, take-at, length-take-le}
 use Rattle.spec_tables.specs.declared.LspBand.{LspBand}
 use Rattle.spec_tables.specs.Band.{placeOf, firstRow}
 use Rattle.spec_tables.specs.Rows.{rowFrom, row, padded}
@@ -38,3 +38,8 @@ followed (x ∷ r) n (suc j) = followed r n j
 pub padded-at : (r : List ℤ) (j : ℕ) → getD (padded r) j (pos 0) ≡ getD r j (pos 0)
 unfolding padded
 padded-at r j = followed r (4 - length r) j
+
+-- what is left of the zeros is nothing
+pub unpadded : (r : List ℤ) (n : ℕ) → length r ≡ n → take n (padded r) ≡ r
+unfolding padded
+unpadded r n h = take-at r (replicate (4 - length r) (pos 0)) n h

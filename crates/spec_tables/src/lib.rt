@@ -2,7 +2,7 @@
 // A table is read by binding it once, as `let t = lsp_rows();`, and lending `&t`: a const that is named in a loop is copied at each use.
 ghost use mathlib.Core.Path.{_≡_};
 ghost use Prim.Native.Nat.{_+_, _*_, _≤_};
-ghost use lib.ListN.{length};
+ghost use lib.ListN.{length, take};
 ghost use Rattle.spec_tables.specs.Band.{placeOf, firstRow, allBands};
 ghost use Rattle.spec_tables.specs.Codebook.{lspRows};
 ghost use Rattle.spec_tables.specs.Rows.{rowFrom, row, padded};
@@ -167,9 +167,10 @@ fn copied(rows: &[i16], at: usize, width: usize) -> [i16; 4]
     out
 }
 
-// Row `index` of a band copied out, zeros after it, of rows that the caller lends.
+// Row `index` of a band copied out, zeros after it, of rows that the caller lends: as many of the four as the band is wide are the row.
 pub fn lsp_codebook_entry(rows: &[i16; 2560], band: LspBand, index: u8) -> [i16; 4]
-    ensures { λ r. ⌜ r ≡ padded (row (now (rows .entry)) band index) ⌝ }
+    ensures four { λ r. ⌜ r ≡ padded (row (now (rows .entry)) band index) ⌝ }
+    ensures row { λ r. ⌜ take (placeOf band .length) r ≡ row (now (rows .entry)) band index ⌝ }
 {
     let place = band.start_and_length();
     let at = band.row_place(index);
