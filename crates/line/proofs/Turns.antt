@@ -12,10 +12,10 @@ use lib.IntN.{ℤ}
 use lib.Ieee.{Float}
 use Rattle.float.specs.Difference.{difference}
 use Rattle.float.specs.Vector.{at}
+use Rattle.spec_tables.specs.Bounds.{rowsPass}
 use Rattle.spec_lsp.specs.Decode.{decoded, decodeLspFreq}
 use Rattle.spec_lsp.specs.Quantise.{quantisedAs, quantiseBy}
 use Rattle.spec_lsp.proofs.Refusals.{decode-done, quantised-set}
-use Rattle.line.specs.Small.{SmallRows}
 use Rattle.line.specs.declared.Turn.{Turn}
 use Rattle.line.specs.declared.Ends.{Ends}
 use Rattle.line.specs.Line.{sends, arrives, loses, received, step, run, tally, arrivals, losses}
@@ -26,9 +26,9 @@ pub record Both (ends : Ends) : Type 0 where
   pub coder : Held (ends .coder)
   pub decoder : Held (ends .decoder)
 
-module _ (rows : List ℤ) (R : SmallRows rows) (choice : List Float → List Float → ℕ) where
+module _ (rows : List ℤ) (R : T (rowsPass rows)) (choice : List Float → List Float → ℕ) where
   -- ---- the decoder takes what arrives
-  pub takes : (index : ℕ) (set : List Float) → Held set → decodeLspFreq rows index set ≡ record { status = 0; set = decoded rows index set }
+  pub takes : (index : ℕ) (set : List Float) → Held set → decodeLspFreq rows index set ≡ record { status = 0; lines = decoded rows index set }
   takes index set p = decode-done rows index set (held-finite set p) (held-bounded set p)
 
   receives : (index : ℕ) (set : List Float) → Held set → received (decodeLspFreq rows) index set ≡ decoded rows index set

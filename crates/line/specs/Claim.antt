@@ -11,18 +11,13 @@ use lib.Ieee.Scale.{finite}
 use Rattle.float.specs.Difference.{difference}
 use Rattle.float.specs.Finite.{notFinite, anyExceeds}
 use Rattle.float.specs.Single.{single}
-use Rattle.float.specs.Table.{table}
 use Rattle.float.specs.Vector.{at}
-use Rattle.spec_tables.specs.Tables.{dcFreq}
-use Rattle.row_search.specs.Error.{number}
+use Rattle.spec_lsp.specs.Resting.{resting}
 use Rattle.line.specs.declared.Turn.{Turn}
 use Rattle.line.specs.declared.Ends.{Ends}
 use Rattle.line.specs.Line.{Set, Coder, Decoder, arrives, run, arrivals, losses}
 
 -- the resting set, at both ends before the first turn
-unfoldable pub resting : Set
-resting = table 10 (number dcFreq)
-
 abbrev pub start : Ends
 start = record { coder = resting; decoder = resting }
 

@@ -1,18 +1,12 @@
 -- The row that a band takes is one of its 256, none of them has a smaller error, and none before it one as small: the search's laws at the bands. Assumes nothing.
-use Prim.Native.Nat.{ℕ, _*_, _<_}
+use Prim.Native.Nat.{ℕ, _<_}
 use mathlib.Core.List.{List}
 use lib.Dec.{T, lit<}
 use lib.IntN.{ℤ}
 use lib.Ieee.{Float, lt, le}
-use Rattle.spec_tables.specs.Band.{placeOf}
 use Rattle.spec_tables.specs.declared.LspBand.{LspBand}
-use Rattle.row_search.specs.Search.{errors}
 use Rattle.row_search.proofs.Least.{none-smaller, none-before, best-lt}
-use Rattle.spec_lsp.specs.Quantise.{chosen}
-
--- the error of a band's row
-abbrev pub bandError : List ℤ → List Float → List Float → LspBand → ℕ → Float
-bandError rows t w band = errors t w (placeOf band .start) rows (placeOf band .length) (256 * placeOf band .start)
+use Rattle.spec_lsp.specs.Quantise.{bandError, chosen}
 
 module _ (rows : List ℤ) (t w : List Float) (band : LspBand) where
   pub chosen-lt : chosen rows t w band < 256

@@ -1,5 +1,5 @@
--- Numbers between two bounds, and the test that a list of code rows must pass: no number outside −8,192..8,192. It is written over any list,
--- since rows that are not built in must pass the same.
+-- Numbers between two bounds, and the one test that a list of code rows must pass: no number outside −8,192..8,192. It is over any list, since
+-- rows that are not built in must pass the same; the claim of the line is about every list that passes.
 -- Assumes nothing.
 use mathlib.Core.Bool.{Bool, true, _&&_}
 use mathlib.Core.List.{List, [], _∷_}

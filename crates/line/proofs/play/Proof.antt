@@ -4,7 +4,7 @@ use borrow.Author.Tests.{eq-eqb, ne-eqb, not-true, not-false}
 use mathlib.Core.Path.{_≡_, refl, sym, ap, _∙_}
 use mathlib.Core.Bool.{Bool, true, false}
 use lib.Dec.{eqb}
-use Rattle.spec_lsp.specs.declared.decode.LspFreq.{LspFreq}
+use Rattle.float.specs.declared.Lines.{Lines}
 use Rattle.spec_lsp.specs.declared.quantise.Quantised.{Quantised}
 use Rattle.line.specs.declared.Turn.{Turn}
 use Rattle.line.specs.declared.Ends.{Ends}
@@ -22,11 +22,11 @@ module _ (quantise : Coder) (decode : Decoder) (e : Ends) (t : Turn) (q : Quanti
   unfolding played step
   lost h b = rw (← f, eq-eqb (q .status) 0 h, b)
 
-  unread : (d : LspFreq) → d ≡ decode (q .index) (e .decoder) → q .status ≡ 0 → t .brings ≡ true → (d .status ≡ 0 → ⊥) → _≡_ {A = Played} (record { ends = record { coder = q .set; decoder = e .decoder }; sent = true; arrived = true }) (played quantise decode e t)
+  unread : (d : Lines) → d ≡ decode (q .index) (e .decoder) → q .status ≡ 0 → t .brings ≡ true → (d .status ≡ 0 → ⊥) → _≡_ {A = Played} (record { ends = record { coder = q .set; decoder = e .decoder }; sent = true; arrived = true }) (played quantise decode e t)
   unfolding played step
   unread d g h b n = rw (← f, eq-eqb (q .status) 0 h, b, ← g, ne-eqb (d .status) 0 n)
 
-  taken : (d : LspFreq) → d ≡ decode (q .index) (e .decoder) → q .status ≡ 0 → t .brings ≡ true → d .status ≡ 0 → _≡_ {A = Played} (record { ends = record { coder = q .set; decoder = d .set }; sent = true; arrived = true }) (played quantise decode e t)
+  taken : (d : Lines) → d ≡ decode (q .index) (e .decoder) → q .status ≡ 0 → t .brings ≡ true → d .status ≡ 0 → _≡_ {A = Played} (record { ends = record { coder = q .set; decoder = d .lines }; sent = true; arrived = true }) (played quantise decode e t)
   unfolding played step
   taken d g h b n = rw (← f, eq-eqb (q .status) 0 h, b, ← g, eq-eqb (d .status) 0 n)
 

@@ -1,4 +1,4 @@
--- `line::resting_set` meets its contract: after i turns the first i resting values stand. Assumes nothing.
+-- `spec_lsp::resting::resting_set` meets its contract: after i turns the first i resting values stand. Assumes nothing.
 use borrow.Author.Needs.{needs}
 use mathlib.Core.Path.{_≡_, refl, ap, _∙_}
 use mathlib.Core.List.{List}
@@ -12,9 +12,9 @@ use Rattle.float.specs.Table.{table}
 use Rattle.float.proofs.Table.{Filled, filled-none, filled-more, filled-all}
 use Rattle.spec_tables.specs.Tables.{dcFreq}
 use Rattle.row_search.specs.Error.{number}
-use Rattle.line.specs.Claim.{resting}
-use Rattle.line.proofs.resting_set.Statement.{statement}
-use Rattle.line.proofs.resting_set.Tie as tie
+use Rattle.spec_lsp.specs.Resting.{resting}
+use Rattle.spec_lsp.proofs.resting.resting_set.Statement.{statement}
+use Rattle.spec_lsp.proofs.resting.resting_set.Tie as tie
 
 abbrev Inv-loop : tie.InvT-loop
 Inv-loop dc set₀ i₀ set i = Filled 10 (number dc) i set
