@@ -1,6 +1,6 @@
 //! Compares the numbers of the tables with the Rust's.
 
-use oracle::args::{fail, Args};
+use oracle::args::{fail, top, Args};
 use oracle::sources;
 
 const HELP: &str = "\
@@ -16,10 +16,7 @@ Exit status: 0 all agree, or the Rust is not at hand (it then prints `not compar
 
 fn main() {
     let mut args = Args::new(HELP);
-    let folder = args.value("--folder").unwrap_or_else(|| match sources::top() {
-        Ok(top) => top.join("crates/spec_tables/src"),
-        Err(why) => fail(&why),
-    });
+    let folder = args.value("--folder").unwrap_or_else(|| top().join("crates/spec_tables/src"));
     args.end();
     if let Err(why) = oracle::rust() {
         println!("not compared: {why}");

@@ -1,7 +1,7 @@
 //! Checks that what docs/REVIEW.md names is there.
 
-use oracle::args::{fail, Args};
-use oracle::sources;
+use pages::args::{fail, top, Args};
+use pages::{crates, read};
 use std::collections::{BTreeMap, BTreeSet};
 use std::fs;
 use std::path::{Path, PathBuf};
@@ -19,7 +19,7 @@ A name in backquotes with a slash and no space is a path from the top of the rep
 Under each letter the numbers run from 1 with none missing and none twice. Where the numbered sentences are at hand, each
 row's words must open its sentence, and every sentence must have a row.
 The other pages of docs/ and README.md are held to their paths and names too, but for what a build or a checkout makes
-(target/, oracle/target/, ../) and folders.
+(what lies in a folder target/, or starts with ../) and folders.
 On docs/TRUST.md a name in backquotes as `lpc:silence_not_seen` is an edit, crates/lpc/must-fail/silence_not_seen.edit: each must
 exist, and the page must name every edit that does. README.md must name in backquotes every crate that crates.txt lists.
 Exit status: 0 all is there; 1 something is missing; 2 bad usage.
@@ -27,7 +27,7 @@ Exit status: 0 all is there; 1 something is missing; 2 bad usage.
 
 fn main() {
     let mut args = Args::new(HELP);
-    let top = sources::top().unwrap_or_else(|why| fail(&why));
+    let top = top();
     let file = args.value("--file").unwrap_or_else(|| top.join("docs/REVIEW.md"));
     let given: Option<PathBuf> = args.value("--sentences");
     args.end();
@@ -98,7 +98,7 @@ fn other_pages(top: &Path, but: &Path) -> u32 {
     let (mut faults, mut names) = (0, 0);
     for page in &pages {
         for (i, line) in read(page).lines().enumerate() {
-            let made = |name: &str| ["target/", "oracle/target/", "../"].iter().any(|start| name.starts_with(start));
+            let made = |name: &str| name.starts_with("../") || name.split('/').any(|folder| folder == "target");
             for name in named(line).filter(|name| !made(name) && !name.ends_with('/')) {
                 names += 1;
                 if let Err(what) = exists(top, name) {
@@ -133,11 +133,9 @@ fn edits(top: &Path) -> u32 {
 
 /// Answers how many crates README.md does not name.
 fn map(top: &Path) -> u32 {
-    let (crates, page) = (read(&top.join("crates.txt")), read(&top.join("README.md")));
+    let (listed, page) = (crates(top), read(&top.join("README.md")));
     let named: BTreeSet<&str> = quoted(&page).collect();
-    let listed = crates.lines().map(|line| line.split('#').next().unwrap_or(""));
-    let listed: Vec<&str> = listed.filter_map(|line| Some(line.split_once(':')?.0.trim())).collect();
-    let missing: Vec<&&str> = listed.iter().filter(|name| !named.contains(**name)).collect();
+    let missing: Vec<&String> = listed.iter().filter(|name| !named.contains(name.as_str())).collect();
     for name in &missing {
         println!("README.md does not name the crate {name}");
     }
@@ -174,10 +172,6 @@ fn quoted(text: &str) -> impl Iterator<Item = &str> {
 /// The names in backquotes that are paths.
 fn named(line: &str) -> impl Iterator<Item = &str> {
     quoted(line).filter(|name| name.contains('/') && !name.contains(' '))
-}
-
-fn read(path: &Path) -> String {
-    fs::read_to_string(path).unwrap_or_else(|e| fail(&format!("{}: {e}", path.display())))
 }
 
 struct Row<'a> {

@@ -1,9 +1,8 @@
 //! Makes the tables of docs/TIMES.md, and checks that no crate is missing there.
 
-use oracle::args::{fail, Args};
-use oracle::sources;
+use pages::args::{fail, top, Args};
+use pages::{crates, read};
 use std::collections::BTreeMap;
-use std::fs;
 use std::path::Path;
 
 const HELP: &str = "\
@@ -28,23 +27,13 @@ fn main() {
     let mut args = Args::new(HELP);
     let check = args.flag("--check");
     args.end();
-    let top = sources::top().unwrap_or_else(|why| fail(&why));
-    let listed = crates(&read(&top.join("crates.txt")));
+    let top = top();
+    let listed = crates(&top);
     if check {
         check_page(&read(&top.join("docs/TIMES.md")), &listed);
     } else {
         print_tables(&top, &listed);
     }
-}
-
-fn read(path: &Path) -> String {
-    fs::read_to_string(path).unwrap_or_else(|e| fail(&format!("{}: {e}", path.display())))
-}
-
-/// The crates that crates.txt lists, in its order.
-fn crates(text: &str) -> Vec<String> {
-    let lines = text.lines().map(|line| line.split('#').next().unwrap_or(""));
-    lines.filter_map(|line| Some(line.split_once(':')?.0.trim().to_string())).collect()
 }
 
 fn check_page(page: &str, listed: &[String]) {
