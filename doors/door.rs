@@ -42,6 +42,7 @@ pub enum Many {
     Length,
 }
 
+#[allow(dead_code)]
 #[derive(Clone, Copy, Debug)]
 pub struct Parameter {
     pub name: &'static str,
@@ -53,6 +54,7 @@ pub struct Parameter {
 }
 
 /// One argument: `place` for what is lent and for a struct by value, else the field of its width.
+#[allow(dead_code)]
 #[derive(Clone, Copy)]
 pub union Argument {
     pub place: *mut u8,
@@ -65,6 +67,7 @@ pub union Argument {
     pub double: f64,
 }
 
+#[allow(dead_code)]
 pub struct Door {
     /// Without `g7231_`.
     pub name: &'static str,
