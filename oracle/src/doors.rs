@@ -3,20 +3,13 @@
 use crate::random::Random;
 use crate::shape::{Field, Kind};
 
-/// What a door and a parameter are.
-#[path = "../../doors/door.rs"]
-pub mod door;
-
-/// The doors as functions, and as one table: doors/make writes both from include/g7231.h.
+/// What a door is, the doors as functions, and the table of them: doors/make has them from include/g7231.h.
 #[allow(clippy::all)]
 pub mod made {
-    use super::door::*;
-    include!(concat!(env!("OUT_DIR"), "/bindings.rs"));
-    include!(concat!(env!("OUT_DIR"), "/table.rs"));
+    include!(concat!(env!("OUT_DIR"), "/doors.rs"));
 }
 
-use door::{Argument, Door, Element, Many, Parameter, Way};
-pub use made::DOORS;
+use made::{Argument, Door, Element, Many, Parameter, Way};
 
 /// What stands in the words of a parameter; none for the length of a list, which stands with the list.
 fn kind(parameter: &Parameter) -> Option<Kind> {
@@ -37,9 +30,17 @@ fn kind(parameter: &Parameter) -> Option<Kind> {
 pub fn fields(door: &Door) -> (Vec<Field>, Vec<Field>) {
     let of = |test: fn(&Parameter) -> bool| {
         let own = door.parameters.iter().filter(|parameter| test(parameter));
-        own.filter_map(|parameter| Some(Field { name: parameter.name, kind: kind(parameter)? })).collect()
+        own.filter_map(|p| Some(Field { name: p.name, kind: kind(p)?, role: p.role })).collect()
     };
     (of(|p| !matches!(p.way, Way::Made)), of(|p| matches!(p.way, Way::Made | Way::Kept)))
+}
+
+/// The resting set of the line frequencies, by its door.
+pub fn resting_set() -> [f32; 10] {
+    let mut set = [0.0; 10];
+    // The buffer has the length that the door asks for, and the door refuses nothing.
+    unsafe { made::g7231_resting_set(&mut set) };
+    set
 }
 
 /// Guards on each side of a buffer, in units of 8 bytes.

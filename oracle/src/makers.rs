@@ -2,7 +2,7 @@
 
 use crate::random::Random;
 use crate::shape::bits;
-use crate::speech::speech;
+use crate::speech::piece;
 use std::f64::consts::PI;
 
 /// The resting set of the line frequencies, as the Rust publishes it.
@@ -87,7 +87,7 @@ pub fn signal(random: &mut Random, n: usize) -> Vec<f32> {
             (0..n).map(|t| if t >= from { 1.0 } else { 0.0 }).collect()
         }
         4 => sparse(random, n).into_iter().map(f64::from).collect(),
-        _ => speech(random, n),
+        _ => piece(random, n),
     };
     let scale = *random.pick(&[1.0, 1.0, 0.1, 32_768.0, 32_767.0, 1e-3, 1e-38, 1e-44, 1e30]);
     let whole = scale == 32_767.0;

@@ -37,6 +37,8 @@ impl Kind {
 pub struct Field {
     pub name: &'static str,
     pub kind: Kind,
+    /// What a valid call has in it, in the header's word; none for an answer.
+    pub role: &'static str,
 }
 
 impl Field {
