@@ -31,3 +31,39 @@ pub mod words;
 
 #[cfg(rust)]
 include!(concat!(env!("OUT_DIR"), "/rust.rs"));
+
+#[cfg(test)]
+mod tests {
+    use std::collections::{BTreeMap, BTreeSet};
+    use std::fs;
+    use std::path::Path;
+
+    /// The modules that a module names, by file; the cut Rust is seen through reach.rs.
+    fn imports() -> BTreeMap<String, BTreeSet<String>> {
+        let mut all = BTreeMap::new();
+        for entry in fs::read_dir(Path::new(env!("CARGO_MANIFEST_DIR")).join("src")).unwrap() {
+            let path = entry.unwrap().path();
+            let name = path.file_stem().unwrap().to_string_lossy().to_string();
+            if path.is_file() && name != "lib" {
+                let text = fs::read_to_string(&path).unwrap();
+                let after = text.split("crate::").skip(1);
+                let named = after.map(|rest| rest.split(|c: char| c != '_' && !c.is_alphanumeric()).next().unwrap());
+                let named = named.map(|n| if ["published", "ruled"].contains(&n) { "reach" } else { n }.to_string());
+                all.insert(name, named.collect());
+            }
+        }
+        all
+    }
+
+    #[test]
+    fn imports_go_one_way() {
+        let mut left = imports();
+        assert!(left.len() > 20 && left["operations"].len() > 5, "{left:?}");
+        // What imports nothing that is left is taken away, again and again; a circle stays.
+        while !left.is_empty() {
+            let names: BTreeSet<String> = left.keys().cloned().collect();
+            left.retain(|_, imported| !imported.is_disjoint(&names));
+            assert!(left.len() < names.len(), "these import one another in a circle: {left:?}");
+        }
+    }
+}

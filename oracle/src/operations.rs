@@ -6,11 +6,12 @@ use crate::distances::{self, Distances, Seen};
 use crate::doors::made::{Door, DOORS};
 use crate::doors::{fields, Frame};
 use crate::inputs::Source;
+use crate::likely;
 use crate::random::Random;
 use crate::reference::{self, Answer, Rust};
 use crate::shape::{split, Field, Kind};
+use crate::special;
 use crate::words::Reader;
-use crate::{likely, special};
 use std::sync::LazyLock;
 
 type Measure = fn(&Seen, &mut Distances);

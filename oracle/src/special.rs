@@ -1,6 +1,6 @@
 //! The inputs that are special to each operation; some go through a list in order, by the turn.
 
-use crate::likely::{combined, run};
+use crate::likely;
 use crate::makers::*;
 use crate::random::Random;
 use crate::rule;
@@ -200,7 +200,7 @@ fn equally_far(
 
 #[cfg(not(rust))]
 pub fn quantise_lsp_freq(random: &mut Random, _: u64) -> Parts {
-    quantise_lsp_freq(random)
+    likely::quantise_lsp_freq(random)
 }
 
 /// Sets at the bound and a little beside the resting set.
@@ -358,13 +358,13 @@ fn at_the_gate(random: &mut Random, place: usize) -> Parts {
 pub fn run_combined(random: &mut Random, _: u64) -> Parts {
     let growth = *random.pick(&[0.0, 1.0, 3.0, 30.0, 1e6]);
     let input = sparse(random, 60);
-    run(random, growth, input)
+    likely::run(random, growth, input)
 }
 
 /// The bare filter, and filters that grow.
 pub fn combined_impulse_response(random: &mut Random, turn: u64) -> Parts {
     let growth = *random.pick(&[0.0, 3.0, 30.0, 1e6]);
-    let (aq, wz, wp, lag, beta) = combined(random, growth);
+    let (aq, wz, wp, lag, beta) = likely::combined(random, growth);
     if turn % 3 == 0 {
         let zeros = vec![0; 10];
         return vec![

@@ -1,6 +1,8 @@
 //! Compares the numbers of the tables with the Rust's.
 
 use oracle::args::{fail, top, Args};
+use oracle::doors::resting_set;
+use oracle::makers::resting;
 use oracle::sources;
 
 const HELP: &str = "\
@@ -10,7 +12,7 @@ tables: compare every number of the tables in crates/spec_tables with the publis
   --help         this text
 
 The tables are constant arrays of the Rust's names in the folder's .rt files. The codebooks of the three bands stand one
-after the other as LSP_CODEBOOK.
+after the other as LSP_CODEBOOK. The set that g7231_resting_set gives is held to the Rust's too.
 Exit status: 0 all agree, or the Rust is not at hand (it then prints `not compared`); 1 one differs; 2 bad usage.
 ";
 
@@ -42,6 +44,10 @@ fn main() {
                 println!("{name}: number {i} is {has}, and the Rust's is {want}");
             }
         }
+    }
+    if resting_set() != resting() {
+        println!("g7231_resting_set gives {:?}, and the Rust's set is {:?}", resting_set(), resting());
+        faults += 1;
     }
     println!("{agree} of {all} numbers agree");
     if agree != all || faults > 0 {
