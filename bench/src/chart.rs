@@ -1,6 +1,20 @@
-//! The ratios as a picture: a bar for each row, on a scale in which twice and half are as far from the line at 1.
+//! The ratios as a picture: a bar for each row that has one, on a scale in which twice and half are as far from the line
+//! at 1.
 
 use crate::rows::{nanoseconds, Row};
+
+/// A row of the table that has both sides.
+struct Bar<'a> {
+    name: &'a str,
+    rust: f64,
+    ours: f64,
+    ratio: f64,
+}
+
+fn bars(rows: &[Row]) -> Vec<Bar<'_>> {
+    let both = rows.iter().filter_map(|row| Some((row, row.time.rust?)));
+    both.map(|(row, rust)| Bar { name: &row.name, rust, ours: row.time.ours, ratio: row.time.ours / rust }).collect()
+}
 
 const LABELS: f64 = 212.0;
 const PLOT: f64 = 420.0;
@@ -13,13 +27,11 @@ const STEP: f64 = 24.0;
 
 /// The picture as SVG.
 pub fn svg(rows: &[Row]) -> String {
-    let scale = Scale::over(rows);
-    let bottom = TOP + STEP * rows.len() as f64;
+    let bars = bars(rows);
+    let scale = Scale::over(&bars);
+    let bottom = TOP + STEP * bars.len() as f64;
     let (width, height) = (LABELS + PLOT + 2.0 * ROOM + TIMES, bottom + 36.0);
-    let all: Vec<String> = rows
-        .iter()
-        .map(|row| format!("{} {:.2}", row.name, row.time.ratio()))
-        .collect();
+    let all: Vec<String> = bars.iter().map(|bar| format!("{} {:.2}", bar.name, bar.ratio)).collect();
     let mut text = format!(
         "<svg xmlns=\"http://www.w3.org/2000/svg\" viewBox=\"0 0 {width} {height}\" width=\"{width}\" height=\"{height}\" \
          role=\"img\" aria-labelledby=\"title desc\">\n\
@@ -44,33 +56,29 @@ pub fn svg(rows: &[Row]) -> String {
             mark(power)
         );
     }
-    for (i, row) in rows.iter().enumerate() {
-        text += &bar(row, &scale, TOP + STEP * i as f64);
+    for (i, bar) in bars.iter().enumerate() {
+        text += &drawn(bar, &scale, TOP + STEP * i as f64);
     }
     text + "</svg>\n"
 }
 
 /// One row: its name, its bar from the line at 1.0, and its figure at the bar's end.
-fn bar(row: &Row, scale: &Scale, y: f64) -> String {
-    let ratio = row.time.ratio();
+fn drawn(bar: &Bar, scale: &Scale, y: f64) -> String {
+    let ratio = bar.ratio;
     let (one, end) = (scale.place(1.0), scale.place(ratio));
     let faster = ratio <= 1.0;
-    let (class, anchor, beside) = if faster {
-        ("faster", "end", end - 6.0)
-    } else {
-        ("slower", "start", end + 6.0)
-    };
-    let weight = if row.name.contains(' ') { " whole" } else { "" };
+    let (class, anchor, beside) = if faster { ("faster", "end", end - 6.0) } else { ("slower", "start", end + 6.0) };
+    let weight = if bar.name.contains(' ') { " whole" } else { "" };
     format!(
         "<g><title>{}: {ratio:.2}</title>\n\
          <text class=\"name{weight}\" x=\"{:.1}\" y=\"{:.1}\" text-anchor=\"end\">{}</text>\n\
          <rect class=\"{class}\" x=\"{:.1}\" y=\"{:.1}\" width=\"{:.1}\" height=\"{:.1}\"/>\n\
          <text class=\"figure{weight}\" x=\"{beside:.1}\" y=\"{:.1}\" text-anchor=\"{anchor}\">{ratio:.2}</text>\n\
          <text class=\"note\" x=\"{:.1}\" y=\"{:.1}\" text-anchor=\"end\">{} → {}</text></g>\n",
-        row.name,
+        bar.name,
         LABELS - 8.0,
         y + 16.0,
-        row.name,
+        bar.name,
         one.min(end),
         y + 4.0,
         (one - end).abs().max(1.0),
@@ -78,8 +86,8 @@ fn bar(row: &Row, scale: &Scale, y: f64) -> String {
         y + 16.0,
         LABELS + PLOT + 2.0 * ROOM + TIMES - 16.0,
         y + 16.0,
-        nanoseconds(row.time.rust),
-        nanoseconds(row.time.ours)
+        nanoseconds(bar.rust),
+        nanoseconds(bar.ours)
     )
 }
 
@@ -90,8 +98,8 @@ struct Scale {
 }
 
 impl Scale {
-    fn over(rows: &[Row]) -> Scale {
-        let logs: Vec<f64> = rows.iter().map(|row| row.time.ratio().log2()).collect();
+    fn over(bars: &[Bar]) -> Scale {
+        let logs: Vec<f64> = bars.iter().map(|bar| bar.ratio.log2()).collect();
         let low = logs.iter().copied().fold(-1.0, f64::min).floor() as i32;
         let high = logs.iter().copied().fold(1.0, f64::max).ceil() as i32;
         Scale { low, high }

@@ -1,0 +1,206 @@
+//! The inputs of a door, drawn by the roles that the header gives its parameters, and laid out for a call of it.
+
+use crate::pairs::Run;
+use oracle::args::fail;
+use oracle::doors::made::{Argument, Door, Element, Many, Parameter, Way};
+use oracle::makers;
+use oracle::random::Random;
+use oracle::speech::loud_piece;
+use std::hint::black_box;
+
+/// Different inputs that a door is called on in turn.
+pub const INPUTS: usize = 32;
+
+/// What is drawn for a door: for each parameter that takes something, one list of values for each input.
+pub struct Given {
+    pub door: &'static Door,
+    values: Vec<Vec<Vec<f64>>>,
+}
+
+impl Given {
+    pub fn new(door: &'static Door, random: &mut Random) -> Given {
+        let mut values = vec![Vec::new(); door.parameters.len()];
+        for _ in 0..INPUTS {
+            let mut taps = None;
+            for (parameter, list) in door.parameters.iter().zip(&mut values) {
+                if taken(parameter) {
+                    let own = drawn(parameter, random, &mut taps);
+                    if own.len() != count(parameter) {
+                        fail(&format!("{}: {} has no {} values", door.name, parameter.name, own.len()));
+                    }
+                    list.push(own);
+                }
+            }
+        }
+        Given { door, values }
+    }
+
+    /// The values of a parameter, for each input, in a form of their own.
+    fn each<T>(&self, name: &str, of: impl Fn(&[f64]) -> T) -> Vec<T> {
+        match self.door.parameters.iter().position(|parameter| parameter.name == name) {
+            Some(at) => self.values[at].iter().map(|values| of(values)).collect(),
+            None => fail(&format!("{} has no parameter {name}", self.door.name)),
+        }
+    }
+
+    pub fn lists(&self, name: &str) -> Vec<Vec<f32>> {
+        self.each(name, |values| values.iter().map(|x| *x as f32).collect())
+    }
+
+    pub fn arrays<const N: usize>(&self, name: &str) -> Vec<[f32; N]> {
+        self.each(name, |values| std::array::from_fn(|i| values[i] as f32))
+    }
+
+    pub fn singles(&self, name: &str) -> Vec<f32> {
+        self.each(name, |values| values[0] as f32)
+    }
+
+    pub fn numbers(&self, name: &str) -> Vec<u32> {
+        self.each(name, |values| values[0] as u32)
+    }
+
+    pub fn sizes(&self, name: &str) -> Vec<usize> {
+        self.each(name, |values| values[0] as usize)
+    }
+}
+
+/// Whether something is drawn for a parameter.
+fn taken(parameter: &Parameter) -> bool {
+    parameter.way != Way::Made && parameter.many != Many::Length
+}
+
+/// How many elements a parameter has in a valid call.
+fn count(parameter: &Parameter) -> usize {
+    match parameter.many {
+        Many::Fixed(n) | Many::Slice(n) => n,
+        Many::One | Many::Length => 1,
+    }
+}
+
+type Ten = [f32; 10];
+
+/// A likely value of a parameter. Taps come in pairs, zeros and then poles of one filter.
+fn drawn(parameter: &Parameter, random: &mut Random, taps: &mut Option<(Ten, Ten)>) -> Vec<f64> {
+    let wide = |xs: &[f32]| xs.iter().map(|x| f64::from(*x)).collect();
+    match parameter.role {
+        "speech" => wide(&loud_piece(random, count(parameter))),
+        "filter" => wide(&makers::filter(random)),
+        "taps" => match taps.take() {
+            Some((_, poles)) => wide(&poles),
+            None => wide(&taps.insert(makers::taps(random)).0),
+        },
+        "cosines" => wide(&makers::cosines(random)),
+        "frequencies" => wide(&makers::ordered(random)),
+        "index" => vec![f64::from(random.bits() >> 8)],
+        "spacing" => vec![31.25],
+        "choice" => vec![random.below(4) as f64],
+        "half" => vec![random.below(2) as f64],
+        "place" => vec![(145 + 60 * random.below(4)) as f64],
+        "pitch lag" => vec![(18 + random.below(125)) as f64],
+        "lag" => vec![(18 + random.below(128)) as f64],
+        "factor" => vec![0.25],
+        "any" => (0..count(parameter)).map(|_| random.below(128) as f64).collect(),
+        role => fail(&format!("bench draws nothing for the role {role}, which {} has", parameter.name)),
+    }
+}
+
+/// What the calls of a door lend, kept for as long as they are made.
+#[derive(Default)]
+struct Lent(Vec<Vec<u64>>);
+
+impl Lent {
+    fn add(&mut self, mut buffer: Vec<u64>) -> *mut u64 {
+        let start = buffer.as_mut_ptr();
+        self.0.push(buffer);
+        start
+    }
+}
+
+/// A memory: what it holds before a call, and where it lies.
+type Held = (Vec<u64>, *mut u64);
+
+/// The calls of a door in its bare form. Everything is laid out beforehand, so that a call is little more than the door's
+/// own: memories are filled as they were drawn, and one list of arguments is handed over.
+pub fn run(given: &Given) -> Run {
+    let door = given.door;
+    let mut lent = Lent::default();
+    // One buffer for each answer and each memory, whatever the input.
+    let own: Vec<*mut u64> = door.parameters.iter().map(|parameter| lent.add(room(parameter))).collect();
+    let mut calls: Vec<(Vec<Argument>, Vec<Held>)> = Vec::new();
+    for i in 0..INPUTS {
+        let (mut arguments, mut memories) = (Vec::new(), Vec::new());
+        for (at, parameter) in door.parameters.iter().enumerate() {
+            let values = given.values[at].get(i).map_or(&[][..], |values| values);
+            arguments.push(match (parameter.way, parameter.many) {
+                (_, Many::Length) => Argument { size: count(&door.parameters[at - 1]) },
+                (Way::Made, _) => Argument { place: own[at].cast() },
+                (Way::Value, _) => value(parameter.element, values[0]),
+                (Way::Read, _) => Argument { place: lent.add(bytes(parameter.element, values)).cast() },
+                (Way::Kept, _) => {
+                    memories.push((bytes(parameter.element, values), own[at]));
+                    Argument { place: own[at].cast() }
+                }
+            });
+        }
+        calls.push((arguments, memories));
+    }
+    let bare = door.bare;
+    if calls.iter().all(|(_, memories)| memories.is_empty()) {
+        let calls: Vec<Vec<Argument>> = calls.into_iter().map(|(arguments, _)| arguments).collect();
+        return Box::new(move |i| {
+            let _lent = &lent;
+            // Each argument is what its parameter asks for, and what they point into lives as long as this.
+            black_box(unsafe { bare(&calls[i]) });
+        });
+    }
+    Box::new(move |i| {
+        let _lent = &lent;
+        let (arguments, memories) = &calls[i];
+        // As above; a memory and what it holds are of one length.
+        unsafe {
+            for (held, place) in memories {
+                place.copy_from_nonoverlapping(held.as_ptr(), held.len());
+            }
+            black_box(bare(arguments));
+        }
+    })
+}
+
+/// Room for what a parameter answers.
+fn room(parameter: &Parameter) -> Vec<u64> {
+    let one = match parameter.element {
+        Element::Struct(size) => size.div_ceil(8),
+        _ => 1,
+    };
+    vec![0; one * count(parameter)]
+}
+
+/// The elements as they lie in memory.
+fn bytes(element: Element, values: &[f64]) -> Vec<u64> {
+    let all: Vec<u8> = values
+        .iter()
+        .flat_map(|x| match element {
+            Element::U8 => vec![*x as u8],
+            Element::I16 => (*x as i16).to_ne_bytes().to_vec(),
+            Element::U16 => (*x as u16).to_ne_bytes().to_vec(),
+            Element::I32 => (*x as i32).to_ne_bytes().to_vec(),
+            Element::U32 => (*x as u32).to_ne_bytes().to_vec(),
+            Element::Size => (*x as usize).to_ne_bytes().to_vec(),
+            Element::F32 => (*x as f32).to_ne_bytes().to_vec(),
+            Element::F64 => x.to_ne_bytes().to_vec(),
+            Element::Struct(size) => vec![*x as u8; size],
+        })
+        .collect();
+    all.chunks(8).map(|own| (0..8).fold(0, |unit, i| unit | u64::from(*own.get(i).unwrap_or(&0)) << (8 * i))).collect()
+}
+
+fn value(element: Element, x: f64) -> Argument {
+    match element {
+        Element::U8 | Element::U16 | Element::U32 => Argument { number: x as u32 },
+        Element::I16 | Element::I32 => Argument { signed: x as i32 },
+        Element::Size => Argument { size: x as usize },
+        Element::F32 => Argument { single: x as f32 },
+        Element::F64 => Argument { double: x },
+        Element::Struct(_) => fail("bench hands no struct over by value"),
+    }
+}
