@@ -1,15 +1,6 @@
 # The table of doors in Rust, for a module that has doors/door.rs and `doors/make rust` in it.
 
 BEGIN {
-    FS = "\t"
-    type["U8"] = "u8"
-    type["I16"] = "i16"
-    type["U16"] = "u16"
-    type["I32"] = "i32"
-    type["U32"] = "u32"
-    type["Size"] = "usize"
-    type["F32"] = "f32"
-    type["F64"] = "f64"
     holds["U8"] = holds["U16"] = holds["U32"] = "number"
     holds["I16"] = holds["I32"] = "signed"
     holds["Size"] = "size"
@@ -18,25 +9,21 @@ BEGIN {
     print "// Made from include/g7231.h by doors/make rust-table.\n"
 }
 
-# The C argument that stands at a place of the list.
+# The argument that stands at a place of the list.
 function given(at, way, element, many, count) {
-    if (way == "Value") {
-        if (!(element in type)) return "*(a[" at "].place as *const " element ")"
-        # number and signed are wider than some of what they hold
-        return "a[" at "]." holds[element] (element ~ /16|U8/ ? " as " type[element] : "")
-    }
-    element = element in type ? type[element] : element
-    if (many == "Fixed") element = "[" element "; " count "]"
-    return "a[" at "].place as *" (way == "Read" ? "const " : "mut ") element
+    if (way != "Value") return "a[" at "].place as " rs_parameter(way, element, many, count)
+    if (!(element in holds)) return "*(a[" at "].place as *const " element ")"
+    # number and signed are wider than some of what they hold
+    return "a[" at "]." holds[element] (element ~ /16|U8/ ? " as " rs_element(element) : "")
 }
 
 $1 == "door" { doors[++count] = $2; forms[$2] = $3 }
 $1 == "refusal" { refusals[$2] = refusals[$2] (refusals[$2] == "" ? "" : ", ") $3 }
 $1 == "parameter" {
     at = places[$2]++
-    element = $5 in type ? $5 : "Struct(std::mem::size_of::<" $5 ">())"
+    element = $5 in holds ? $5 : "Struct(std::mem::size_of::<" $5 ">())"
     many = $6 == "Fixed" || $6 == "Slice" ? $6 "(" $7 ")" : $6
-    rows[$2] = rows[$2] sprintf("        Parameter { name: \"%s\", way: Way::%s, element: Element::%s, many: Many::%s, role: \"%s\" },\n", \
+    rows[$2] = rows[$2] sprintf("            Parameter { name: \"%s\", way: Way::%s, element: Element::%s, many: Many::%s, role: \"%s\" },\n", \
         $3, $4, element, many, $8)
     calls[$2] = calls[$2] (at ? ", " : "") given(at, $4, $5, $6, $7)
 }
@@ -51,11 +38,9 @@ END {
     printf "#[allow(dead_code)]\npub static DOORS: [Door; %d] = [\n", count
     for (i = 1; i <= count; i++) {
         door = doors[i]
-        printf "    Door {\n        name: \"%s\",\n        parameters: &[\n", door
-        rows_of = rows[door]
-        gsub(/        Parameter/, "            Parameter", rows_of)
-        printf "%s        ],\n        refusals: &[%s],\n        safe: safe_%s,\n        bare: %s_%s,\n    },\n", rows_of, \
-            refusals[door], door, (forms[door] == 2 ? "bare" : "safe"), door
+        printf "    Door {\n        name: \"%s\",\n        parameters: &[\n%s        ],\n", door, rows[door]
+        printf "        refusals: &[%s],\n        safe: safe_%s,\n        bare: %s_%s,\n    },\n", refusals[door], door, \
+            (forms[door] == 2 ? "bare" : "safe"), door
     }
     print "];"
 }
