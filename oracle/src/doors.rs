@@ -13,14 +13,14 @@ use made::{Argument, Door, Element, Many, Parameter, Way};
 
 /// What stands in the words of a parameter; none for the length of a list, which stands with the list.
 fn kind(parameter: &Parameter) -> Option<Kind> {
-    Some(match (&parameter.way, &parameter.element, &parameter.many) {
+    Some(match (parameter.way, parameter.element, parameter.many) {
         (_, _, Many::Length) => return None,
         (Way::Value, Element::F32, Many::One) => Kind::Single,
         (Way::Value, Element::Size, Many::One) => Kind::Word,
         (_, Element::U32, Many::One) => Kind::Number,
         (_, Element::F32, Many::One) => Kind::Singles(1),
-        (_, Element::F32, Many::Fixed(n)) => Kind::Singles(*n),
-        (_, Element::F64, Many::Fixed(n)) => Kind::Doubles(*n),
+        (_, Element::F32, Many::Fixed(n)) => Kind::Singles(n),
+        (_, Element::F64, Many::Fixed(n)) => Kind::Doubles(n),
         (Way::Read, Element::F32, Many::Slice(_)) => Kind::Samples,
         _ => panic!("the parameter {} has no form in words yet", parameter.name),
     })
@@ -32,7 +32,7 @@ pub fn fields(door: &Door) -> (Vec<Field>, Vec<Field>) {
         let own = door.parameters.iter().filter(|parameter| test(parameter));
         own.filter_map(|p| Some(Field { name: p.name, kind: kind(p)?, role: p.role })).collect()
     };
-    (of(|p| !matches!(p.way, Way::Made)), of(|p| matches!(p.way, Way::Made | Way::Kept)))
+    (of(|p| p.way != Way::Made), of(|p| matches!(p.way, Way::Made | Way::Kept)))
 }
 
 /// The resting set of the line frequencies, by its door.
@@ -110,20 +110,15 @@ pub struct Frame {
 impl Frame {
     /// The parts are those of the fields that the door takes.
     pub fn new(door: &'static Door, parts: &[&[u32]], random: &mut Random) -> Frame {
-        let mut parts = parts.iter();
-        let mut handed = Vec::with_capacity(door.parameters.len());
-        for parameter in door.parameters {
-            let Some(kind) = kind(parameter) else {
-                handed.push(Handed::Length);
-                continue;
-            };
-            handed.push(match parameter.way {
-                Way::Made => Handed::Lent(Buffer::new(&fill(kind.words(), random), random)),
-                Way::Value => Handed::Value(value(kind, parts.next().unwrap_or(&&[][..]))),
-                Way::Read | Way::Kept => Handed::Lent(Buffer::new(parts.next().unwrap_or(&&[][..]), random)),
-            });
-        }
-        Frame { door, handed }
+        let mut parts = parts.iter().copied();
+        let mut part = || parts.next().unwrap_or_default();
+        let hand = |parameter: &Parameter| match (kind(parameter), parameter.way) {
+            (None, _) => Handed::Length,
+            (Some(kind), Way::Made) => Handed::Lent(Buffer::new(&fill(kind.words(), random), random)),
+            (Some(kind), Way::Value) => Handed::Value(value(kind, part())),
+            (Some(_), Way::Read | Way::Kept) => Handed::Lent(Buffer::new(part(), random)),
+        };
+        Frame { door, handed: door.parameters.iter().map(hand).collect() }
     }
 
     /// Calls the door, and answers its status.
@@ -156,9 +151,9 @@ impl Frame {
     /// What the call gave, in words; doubles lie in memory low word first.
     pub fn gave(&self) -> Vec<u32> {
         let mut words = Vec::new();
-        for (parameter, buffer) in self.lent().filter(|(parameter, _)| !matches!(parameter.way, Way::Read)) {
+        for (parameter, buffer) in self.lent().filter(|(parameter, _)| parameter.way != Way::Read) {
             let mut own = buffer.words();
-            if matches!(parameter.element, Element::F64) {
+            if parameter.element == Element::F64 {
                 own.chunks_mut(2).for_each(|pair| pair.swap(0, 1));
             }
             words.extend(own);
@@ -172,7 +167,7 @@ impl Frame {
             if !buffer.guarded() {
                 return Some(format!("wrote outside {}", parameter.name));
             }
-            if matches!(parameter.way, Way::Read) && buffer.altered() {
+            if parameter.way == Way::Read && buffer.altered() {
                 return Some(format!("altered {}, which is only read", parameter.name));
             }
             if refused && buffer.altered() {

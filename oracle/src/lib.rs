@@ -26,6 +26,8 @@ pub mod shrink;
 pub mod sources;
 pub mod special;
 pub mod speech;
+#[cfg(rust)]
+pub mod ties;
 pub mod trial;
 pub mod words;
 

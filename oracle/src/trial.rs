@@ -34,6 +34,8 @@ impl Judge {
         }
         let fault = if status != wanted_status {
             Some(format!("status {status} and not {wanted_status}"))
+        } else if status != 0 && !operation.door.refusals.contains(&status) {
+            Some(format!("status {status}, which the header does not list"))
         } else if let Some(trespass) = frame.trespass(status != 0) {
             Some(trespass)
         } else if status == 0 && !operation.same(&gave, &wanted) {
