@@ -116,53 +116,48 @@ impl Lent {
     }
 }
 
-/// A memory: what it holds before a call, and where it lies.
-type Held = (Vec<u64>, *mut u64);
-
 /// The calls of a door in its bare form. Everything is laid out beforehand, so that a call is little more than the door's
-/// own: memories are filled as they were drawn, and one list of arguments is handed over.
+/// own: one list of arguments is handed over, after the memories are filled again as they were drawn.
 pub fn run(given: &Given) -> Run {
-    let door = given.door;
-    let mut lent = Lent::default();
-    // One buffer for each answer and each memory, whatever the input.
-    let own: Vec<*mut u64> = door.parameters.iter().map(|parameter| lent.add(room(parameter))).collect();
-    let mut calls: Vec<(Vec<Argument>, Vec<Held>)> = Vec::new();
+    let (door, mut lent) = (given.door, Lent::default());
+    // The answers and the memories lie in the same places for every input, the memories side by side.
+    let answers: Vec<*mut u64> = door.parameters.iter().map(|parameter| lent.add(room(parameter))).collect();
+    let kept = |parameter: &&Parameter| parameter.way == Way::Kept;
+    let memory = lent.add(door.parameters.iter().filter(kept).flat_map(room).collect());
+    let mut calls: Vec<(Vec<Argument>, Vec<u64>)> = Vec::new();
     for i in 0..INPUTS {
-        let (mut arguments, mut memories) = (Vec::new(), Vec::new());
-        for (at, parameter) in door.parameters.iter().enumerate() {
+        let mut held = Vec::new();
+        let arguments = door.parameters.iter().enumerate().map(|(at, parameter)| {
             let values = given.values[at].get(i).map_or(&[][..], |values| values);
-            arguments.push(match (parameter.way, parameter.many) {
+            match (parameter.way, parameter.many) {
                 (_, Many::Length) => Argument { size: count(&door.parameters[at - 1]) },
-                (Way::Made, _) => Argument { place: own[at].cast() },
+                (Way::Made, _) => Argument { place: answers[at].cast() },
                 (Way::Value, _) => value(parameter.element, values[0]),
                 (Way::Read, _) => Argument { place: lent.add(bytes(parameter.element, values)).cast() },
                 (Way::Kept, _) => {
-                    memories.push((bytes(parameter.element, values), own[at]));
-                    Argument { place: own[at].cast() }
+                    let place = memory.wrapping_add(held.len()).cast();
+                    held.extend(bytes(parameter.element, values));
+                    Argument { place }
                 }
-            });
-        }
-        calls.push((arguments, memories));
+            }
+        });
+        let arguments = arguments.collect();
+        calls.push((arguments, held));
     }
     let bare = door.bare;
-    if calls.iter().all(|(_, memories)| memories.is_empty()) {
-        let calls: Vec<Vec<Argument>> = calls.into_iter().map(|(arguments, _)| arguments).collect();
+    // Each argument is what its parameter asks for, and what they point into lives as long as `lent`. The status is kept
+    // as a machine word: with half of one on the stack the return would wait for it, longer than a short door takes.
+    if calls.iter().all(|(_, held)| held.is_empty()) {
+        let calls: Vec<_> = calls.into_iter().map(|(arguments, _)| arguments).collect();
         return Box::new(move |i| {
-            let _lent = &lent;
-            // Each argument is what its parameter asks for, and what they point into lives as long as this.
-            black_box(unsafe { bare(&calls[i]) });
+            let (_, arguments) = (&lent, &calls[i]);
+            black_box(unsafe { bare(arguments) } as usize);
         });
     }
     Box::new(move |i| {
-        let _lent = &lent;
-        let (arguments, memories) = &calls[i];
-        // As above; a memory and what it holds are of one length.
-        unsafe {
-            for (held, place) in memories {
-                place.copy_from_nonoverlapping(held.as_ptr(), held.len());
-            }
-            black_box(bare(arguments));
-        }
+        let (_, (arguments, held)) = (&lent, &calls[i]);
+        unsafe { memory.copy_from_nonoverlapping(held.as_ptr(), held.len()) };
+        black_box(unsafe { bare(arguments) } as usize);
     })
 }
 

@@ -61,12 +61,16 @@ impl Field {
 /// One list of words a field, so that any of them can be altered alone; of a list of samples the singles alone.
 pub type Parts = Vec<Vec<u32>>;
 
-/// The words of some parts: a list of samples gets its length in front.
+/// The words of some parts: a list of samples gets its length in front. The parts must be those of the fields, so that an
+/// input that was drawn for another list of parameters is not taken for one of these.
 pub fn joined(fields: &[Field], parts: &Parts) -> Vec<u32> {
+    assert_eq!(fields.len(), parts.len(), "as many parts as fields");
     let mut words = Vec::new();
     for (field, part) in fields.iter().zip(parts) {
         if field.is_list() {
             words.push(part.len() as u32);
+        } else {
+            assert_eq!(part.len(), field.kind.words(), "the words of {}", field.name);
         }
         words.extend(part);
     }
