@@ -74,7 +74,25 @@ struct door {
     call *bare; /* the same as safe where a door has one form only */
 };
 
-/* DOORS is their number, MOST the greatest number of parameters, STATUSES the number of statuses. doors/make writes
- * the three into table.h, and the table into table.c. */
+/* Whether a parameter is memory: what is lent, and a struct by value, which the table's call reads from its place. */
+static inline int is_buffer(const struct parameter *parameter)
+{
+    return parameter->way != VALUE || parameter->element == STRUCT;
+}
+
+/* Memory that is only read. */
+static inline int is_read(const struct parameter *parameter)
+{
+    return is_buffer(parameter) && (parameter->way == READ || parameter->way == VALUE);
+}
+
+/* Memory that is written. */
+static inline int is_written(const struct parameter *parameter)
+{
+    return parameter->way == KEPT || parameter->way == MADE;
+}
+
+/* `doors/make table.h` has the table's declaration, with DOORS, their number, MOST, the greatest number of parameters,
+ * and STATUSES, the number of statuses. */
 
 #endif

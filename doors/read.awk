@@ -58,6 +58,7 @@ function length_of(text, line) {
     while (rest != "") {
         if (commenting) {
             at = index(rest, "*/")
+            if (index(at ? substr(rest, 1, at - 1) : rest, "/*")) fail(FNR, "the comment before this one has no end")
             comment[++comments] = said(at ? substr(rest, 1, at - 1) : rest)
             rest = at ? substr(rest, at + 2) : ""
             if (at) commenting = 0

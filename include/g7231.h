@@ -12,7 +12,7 @@
  *
  * Threads and memory. Nothing is kept between calls and nothing is allocated, so
  * any threads may call at any time, each on its own buffers. A call takes less
- * than 64 KB of stack.
+ * than 16 KB of stack.
  *
  * Buffers have the lengths written here and may not be null. Buffers of one call
  * may not overlap, but for this: buffers of floats that are only read (const) may
