@@ -78,7 +78,7 @@ impl Buffer {
         let tail = self.words.div_ceil(2) + GUARD;
         self.store[..GUARD] == self.before[..GUARD]
             && self.store[tail..] == self.before[tail..]
-            && (self.words % 2 == 0 || self.store[end] >> 32 == self.before[end] >> 32)
+            && (self.words.is_multiple_of(2) || self.store[end] >> 32 == self.before[end] >> 32)
     }
 
     fn altered(&self) -> bool {

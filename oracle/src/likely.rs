@@ -50,7 +50,7 @@ pub fn weighting_taps(random: &mut Random) -> Parts {
 
 pub fn weight_subframe(random: &mut Random) -> Parts {
     let (wz, wp) = taps(random);
-    vec![bits(&signal(random, 60)), bits(&wz), bits(&wp), memory::<10>(random), memory::<10>(random)]
+    vec![bits(&signal(random, 60)), bits(&wz), bits(&wp), memory(random, 10), memory(random, 10)]
 }
 
 pub fn open_loop_pitch(random: &mut Random) -> Parts {
@@ -64,17 +64,19 @@ pub fn harmonic_noise_shaping(random: &mut Random) -> Parts {
     vec![bits(&signal(random, 385)), word(place), lag(random, 18, 142)]
 }
 
-pub fn combined(random: &mut Random, growth: f32) -> (Vec<u32>, Vec<u32>, Vec<u32>, Vec<u32>, Vec<u32>) {
+/// The combined filter, of one size or another, with its lag and factor.
+pub fn combined(random: &mut Random, growth: f32) -> Parts {
     let (wz, wp) = taps(random);
     let aq = filter(random).map(|a| a * growth);
     let beta = 0.3125 * random.between(0.0, 1.0) as f32;
-    (bits(&aq), bits(&wz), bits(&wp), lag(random, 18, 145), vec![beta.to_bits()])
+    vec![bits(&aq), bits(&wz), bits(&wp), lag(random, 18, 145), bits(&[beta])]
 }
 
+/// Memories and an input before it.
 pub fn run(random: &mut Random, growth: f32, input: Vec<f32>) -> Parts {
-    let (aq, wz, wp, lag, beta) = combined(random, growth);
-    let (syn, wz_mem, wp_mem) = (memory::<10>(random), memory::<10>(random), memory::<10>(random));
-    vec![syn, wz_mem, wp_mem, memory::<145>(random), bits(&input), aq, wz, wp, lag, beta]
+    let filter = combined(random, growth);
+    let memories = [10, 10, 10, 145].map(|n| memory(random, n));
+    memories.into_iter().chain([bits(&input)]).chain(filter).collect()
 }
 
 pub fn run_combined(random: &mut Random) -> Parts {
@@ -83,6 +85,5 @@ pub fn run_combined(random: &mut Random) -> Parts {
 }
 
 pub fn combined_impulse_response(random: &mut Random) -> Parts {
-    let (aq, wz, wp, lag, beta) = combined(random, 1.0);
-    vec![aq, wz, wp, lag, beta]
+    combined(random, 1.0)
 }

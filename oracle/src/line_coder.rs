@@ -8,11 +8,12 @@ use crate::doors::resting_set;
 use crate::makers::resting;
 
 type Ten = [f32; 10];
+type Analysis = ([f32; 11], [f64; 11], f32);
 
 /// The four stages and the set that they start from, the Rust's or the library's.
 pub struct LineCoder {
     pub resting: Ten,
-    pub analyse: fn(&[f32]) -> ([f32; 11], [f64; 11], f32),
+    pub analyse: fn(&[f32]) -> Analysis,
     pub lines: fn(&[f32; 11]) -> Option<Ten>,
     pub frequencies: fn(&Ten) -> Ten,
     pub quantise: fn(&Ten, &Ten) -> (u32, Ten),

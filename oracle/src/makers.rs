@@ -116,7 +116,7 @@ pub fn spacing(random: &mut Random) -> Vec<u32> {
     vec![if random.once_in(3) { any } else { *random.pick(&named) }.to_bits()]
 }
 
-pub fn memory<const N: usize>(random: &mut Random) -> Vec<u32> {
+pub fn memory(random: &mut Random, n: usize) -> Vec<u32> {
     let empty = random.once_in(6);
-    bits(&signal(random, N).iter().map(|x| if empty { 0.0 } else { *x }).collect::<Vec<_>>())
+    bits(&signal(random, n).iter().map(|x| if empty { 0.0 } else { *x }).collect::<Vec<_>>())
 }

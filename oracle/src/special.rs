@@ -183,7 +183,7 @@ pub fn weight_subframe(random: &mut Random, _: u64) -> Parts {
         bits(&sparse(random, 60)),
         bits(&wz),
         bits(&wp.map(|w| w * growth)),
-        memory::<10>(random),
+        memory(random, 10),
         bits(&sparse(random, 10)),
     ]
 }
@@ -282,16 +282,10 @@ pub fn run_combined(random: &mut Random, _: u64) -> Parts {
 /// The bare filter, and filters that grow.
 pub fn combined_impulse_response(random: &mut Random, turn: u64) -> Parts {
     let growth = *random.pick(&[0.0, 3.0, 30.0, 1e6]);
-    let (aq, wz, wp, lag, beta) = likely::combined(random, growth);
+    let mut parts = likely::combined(random, growth);
     if turn % 3 == 0 {
-        let zeros = vec![0; 10];
-        return vec![
-            bits(&std::array::from_fn::<f32, 11, _>(|i| if i == 0 { 1.0 } else { 0.0 })),
-            zeros.clone(),
-            zeros,
-            lag,
-            beta,
-        ];
+        parts[..3].iter_mut().for_each(|part| part.fill(0));
+        parts[0][0] = 1f32.to_bits();
     }
-    vec![aq, wz, wp, lag, beta]
+    parts
 }
