@@ -71,7 +71,7 @@ fn door(name: &str) -> &'static Door {
 
 /// The operation of a name.
 pub fn named(name: &str) -> Result<&'static Operation, String> {
-    OPERATIONS.iter().find(|operation| operation.name == name).ok_or_else(|| format!("there is no function {name}"))
+    OPERATIONS.iter().find(|operation| operation.name == name).ok_or_else(|| format!("the Rust has no function {name}"))
 }
 
 /// The doors that are no operation of document 01, so that the Rust has nothing to hold them to.
