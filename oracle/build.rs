@@ -133,6 +133,12 @@ fn library(top: &Path) {
         let why = if named { "G7231_FOLDER names that folder" } else { "./install makes it" };
         fail(&format!("there is no {}: {why}", archive.display()));
     }
+    // A door of other parameters than the header's would be called all the same.
+    let installed = folder.join("include/g7231.h");
+    println!("cargo::rerun-if-changed={}", installed.display());
+    if read(&installed) != read(&top.join("include/g7231.h")) {
+        fail(&format!("{} is not include/g7231.h: ./install writes both it and the library", installed.display()));
+    }
     println!("cargo::rustc-link-search=native={}", folder.join("lib").display());
     println!("cargo::rustc-link-lib=static=g7231");
 }
