@@ -2,7 +2,7 @@
 
 use crate::pairs::Run;
 use oracle::args::fail;
-use oracle::doors::made::{Argument, Door, Element, Many, Parameter, Way};
+use oracle::doors::made::{Argument, Door, Element, Many, Parameter, Way, G7231_DONE};
 use oracle::makers;
 use oracle::random::Random;
 use oracle::speech::loud_piece;
@@ -145,8 +145,16 @@ pub fn run(given: &Given) -> Run {
         calls.push((arguments, held));
     }
     let bare = door.bare;
-    // Each argument is what its parameter asks for, and what they point into lives as long as `lent`. The status is kept
-    // as a machine word: with half of one on the stack the return would wait for it, longer than a short door takes.
+    // Each argument is what its parameter asks for, and what they point into lives as long as `lent`.
+    for (arguments, held) in &calls {
+        unsafe { memory.copy_from_nonoverlapping(held.as_ptr(), held.len()) };
+        match unsafe { bare(arguments) } {
+            G7231_DONE => {}
+            status => fail(&format!("{} refuses what is drawn for it: status {status}", door.name)),
+        }
+    }
+    // The status is kept as a machine word: with half of one on the stack the return would wait for it, longer than a
+    // short door takes.
     if calls.iter().all(|(_, held)| held.is_empty()) {
         let calls: Vec<_> = calls.into_iter().map(|(arguments, _)| arguments).collect();
         return Box::new(move |i| {
