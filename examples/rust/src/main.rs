@@ -4,16 +4,12 @@ mod g7231;
 
 use std::process::exit;
 
+use g7231::doors::{
+    G7231_FRAME as FRAME, G7231_NO_LINE_SET, G7231_PAST as PAST, G7231_SUBFRAME as SUBFRAME, G7231_WINDOW as WINDOW,
+};
 use g7231::{CombinedMem, Refusal, Taps, WeightingMem};
 
-const FRAME: usize = 240;
-const SUBFRAME: usize = 60;
-const WINDOW: usize = 180;
-const PAST: usize = 145;
 const WEIGHTED: usize = PAST + FRAME;
-
-/// What the line frequencies rest at: both ends begin with it.
-const RESTING: [f32; 10] = [3131.0, 4721.0, 7690.0, 10806.0, 13872.0, 16495.0, 19752.0, 22260.0, 25484.0, 27718.0];
 
 /// A hash of what was answered (FNV-1a, 64 bits, low byte first).
 struct Hash(u64);
@@ -95,7 +91,7 @@ impl Coder {
                 self.found = lines;
                 0
             }
-            Err(Refusal::NoLineSet) => Refusal::NoLineSet as u32,
+            Err(Refusal(G7231_NO_LINE_SET)) => G7231_NO_LINE_SET,
             Err(other) => return Err(other),
         };
         answers.number(status);
@@ -164,18 +160,19 @@ fn read_call(name: &str) -> Result<Vec<f32>, String> {
 }
 
 fn run(name: &str) -> Result<(), String> {
-    let refused = |why: Refusal| format!("a door refused with {}: {why}", why as u32);
+    let refused = |why: Refusal| format!("a door refused with {}: {why}", why.0);
     let speech = read_call(name)?;
-    let lines = g7231::lsp_freq_to_cosines(&RESTING).map_err(refused)?;
+    let resting = g7231::resting_set();
+    let lines = g7231::lsp_freq_to_cosines(&resting).map_err(refused)?;
     let mut coder = Coder {
-        set: RESTING,
+        set: resting,
         found: lines,
         lines,
         weighting: WeightingMem::default(),
         weighted: [0.0; WEIGHTED],
         combined: CombinedMem::new(),
     };
-    let mut decoder = Decoder { set: RESTING, lines };
+    let mut decoder = Decoder { set: resting, lines };
     let (mut coded, mut answers) = (Hash::new(), Hash::new());
     for (frame, start) in (0..speech.len() - 2 * SUBFRAME).step_by(FRAME).enumerate() {
         let around = &speech[start..start + FRAME + 2 * SUBFRAME];
