@@ -20,27 +20,15 @@ ghost use Rattle.combined.specs.Run.{runCombined};
 ghost use Rattle.impulse.specs.Impulse.{impulseResponse};
 ghost use Rattle.c_api.specs.Lent.{lent, flag};
 ghost use Rattle.c_api.specs.Memory.{memory};
-ghost use Rattle.c_api.specs.Resting.{restingSet};
-
-// The resting set, in singles.
-fn resting_lines() -> [f32; 10]
-    ensures { λ r. ⌜ r ≡ restingSet ⌝ }
-{
-    let dc = spec_tables::lsp_dc_predicted_freq();
-    let mut set = [0.0f32; 10];
-    for i in 0..10 {
-        set[i] = dc[i] as f32;
-    }
-    set
-}
+ghost use Rattle.spec_lsp.specs.Resting.{resting};
 
 // It has no bare form: a whole number as a single is exact in every mode.
 #[no_mangle]
 pub extern "C" fn g7231_resting_set(set: &mut [f32; 10]) -> u32
     ensures status { λ r. ⌜ r ≡ 0 ⌝ }
-    ensures lines { λ r. ⌜ now (set .exit) ≡ restingSet ⌝ }
+    ensures lines { λ r. ⌜ now (set .exit) ≡ resting ⌝ }
 {
-    let lines = resting_lines();
+    let lines = spec_lsp::resting::resting_set();
     *set = lines;
     0
 }
@@ -191,13 +179,13 @@ pub extern "C" fn g7231_bare_open_loop_pitch(wbuf: &[f32], half: usize, lag: &mu
 #[no_mangle]
 pub extern "C" fn g7231_bare_lpc_to_lsp(a: &[f32; 11], lsp: &mut [f32; 10]) -> u32
     ensures status { λ r. ⌜ r ≡ lpcToLsp (now (a .entry)) .status ⌝ }
-    ensures lines { λ r. ⌜ now (lsp .exit) ≡ lent r (now (lsp .entry)) (lpcToLsp (now (a .entry)) .lsp) ⌝ }
+    ensures lines { λ r. ⌜ now (lsp .exit) ≡ lent r (now (lsp .entry)) (lpcToLsp (now (a .entry)) .lines) ⌝ }
 {
     let given = *a;
     let answer = lsp::lpc_to_lsp(given);
     let status = answer.status;
     if status == 0 {
-        let lines = answer.lsp;
+        let lines = answer.lines;
         *lsp = lines;
     }
     status
@@ -211,14 +199,14 @@ pub extern "C" fn g7231_bare_interpolate_lsp(
     out: &mut [f32; 10],
 ) -> u32
     ensures status { λ r. ⌜ r ≡ interpolateLsp choice (now (prev .entry)) (now (cur .entry)) .status ⌝ }
-    ensures lines { λ r. ⌜ now (out .exit) ≡ lent r (now (out .entry)) (interpolateLsp choice (now (prev .entry)) (now (cur .entry)) .lsp) ⌝ }
+    ensures lines { λ r. ⌜ now (out .exit) ≡ lent r (now (out .entry)) (interpolateLsp choice (now (prev .entry)) (now (cur .entry)) .lines) ⌝ }
 {
     let last = *prev;
     let this = *cur;
     let answer = lsp_filter::interpolate_lsp(choice, last, this);
     let status = answer.status;
     if status == 0 {
-        let lines = answer.lsp;
+        let lines = answer.lines;
         *out = lines;
     }
     status
@@ -291,13 +279,13 @@ pub extern "C" fn g7231_bare_decode_lsp_freq(
     set: &mut [f32; 10],
 ) -> u32
     ensures status { λ r. ⌜ r ≡ decodeLspFreq lspRows index (now (prev .entry)) .status ⌝ }
-    ensures lines { λ r. ⌜ now (set .exit) ≡ lent r (now (set .entry)) (decodeLspFreq lspRows index (now (prev .entry)) .set) ⌝ }
+    ensures lines { λ r. ⌜ now (set .exit) ≡ lent r (now (set .entry)) (decodeLspFreq lspRows index (now (prev .entry)) .lines) ⌝ }
 {
     let last = *prev;
     let answer = spec_lsp::decode::decode_lsp_freq(index, last);
     let status = answer.status;
     if status == 0 {
-        let lines = answer.set;
+        let lines = answer.lines;
         *set = lines;
     }
     status

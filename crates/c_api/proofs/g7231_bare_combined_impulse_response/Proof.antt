@@ -3,15 +3,15 @@ use borrow.Author.Needs.{needs}
 use Prim.Native.Nat.{ℕ}
 use mathlib.Core.List.{List}
 use lib.Ieee.{Float}
-use Rattle.impulse.specs.declared.ImpulseResponse.{ImpulseResponse}
+use Rattle.combined.specs.declared.CombinedOut.{CombinedOut}
 use Rattle.c_api.proofs.Lent.{told, stored, kept}
 use Rattle.c_api.proofs.g7231_bare_combined_impulse_response.Statement.{statement}
 use Rattle.c_api.proofs.g7231_bare_combined_impulse_response.Tie as tie
 
-abbrev status : ImpulseResponse → ℕ
+abbrev status : CombinedOut → ℕ
 status a = a .status
 
-abbrev samples : ImpulseResponse → List Float
+abbrev samples : CombinedOut → List Float
 samples a = a .out
 
 pub g7231-bare-combined-impulse-response-spec : {M : Type 1} → statement M

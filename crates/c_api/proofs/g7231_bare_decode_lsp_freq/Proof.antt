@@ -3,16 +3,16 @@ use borrow.Author.Needs.{needs}
 use Prim.Native.Nat.{ℕ}
 use mathlib.Core.List.{List}
 use lib.Ieee.{Float}
-use Rattle.spec_lsp.specs.declared.decode.LspFreq.{LspFreq}
+use Rattle.float.specs.declared.Lines.{Lines}
 use Rattle.c_api.proofs.Lent.{told, stored, kept}
 use Rattle.c_api.proofs.g7231_bare_decode_lsp_freq.Statement.{statement}
 use Rattle.c_api.proofs.g7231_bare_decode_lsp_freq.Tie as tie
 
-abbrev status : LspFreq → ℕ
+abbrev status : Lines → ℕ
 status a = a .status
 
-abbrev lines : LspFreq → List Float
-lines a = a .set
+abbrev lines : Lines → List Float
+lines a = a .lines
 
 pub g7231-bare-decode-lsp-freq-spec : {M : Type 1} → statement M
 g7231-bare-decode-lsp-freq-spec =

@@ -3,16 +3,16 @@ use borrow.Author.Needs.{needs}
 use Prim.Native.Nat.{ℕ}
 use mathlib.Core.List.{List}
 use lib.Ieee.{Float}
-use Rattle.lsp.specs.declared.LspSet.{LspSet}
+use Rattle.float.specs.declared.Lines.{Lines}
 use Rattle.c_api.proofs.Lent.{told, stored, kept}
 use Rattle.c_api.proofs.g7231_bare_lpc_to_lsp.Statement.{statement}
 use Rattle.c_api.proofs.g7231_bare_lpc_to_lsp.Tie as tie
 
-abbrev status : LspSet → ℕ
+abbrev status : Lines → ℕ
 status a = a .status
 
-abbrev lines : LspSet → List Float
-lines a = a .lsp
+abbrev lines : Lines → List Float
+lines a = a .lines
 
 pub g7231-bare-lpc-to-lsp-spec : {M : Type 1} → statement M
 g7231-bare-lpc-to-lsp-spec =

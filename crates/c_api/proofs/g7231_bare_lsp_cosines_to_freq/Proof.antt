@@ -3,15 +3,15 @@ use borrow.Author.Needs.{needs}
 use Prim.Native.Nat.{ℕ}
 use mathlib.Core.List.{List}
 use lib.Ieee.{Float}
-use Rattle.convert.specs.declared.Converted.{Converted}
+use Rattle.float.specs.declared.Lines.{Lines}
 use Rattle.c_api.proofs.Lent.{told, stored, kept}
 use Rattle.c_api.proofs.g7231_bare_lsp_cosines_to_freq.Statement.{statement}
 use Rattle.c_api.proofs.g7231_bare_lsp_cosines_to_freq.Tie as tie
 
-abbrev status : Converted → ℕ
+abbrev status : Lines → ℕ
 status a = a .status
 
-abbrev lines : Converted → List Float
+abbrev lines : Lines → List Float
 lines a = a .lines
 
 pub g7231-bare-lsp-cosines-to-freq-spec : {M : Type 1} → statement M
