@@ -27,8 +27,8 @@ falling (suc n) x = falling n x && lt (getD x (suc n) nan) (getD x n nan)
 unfoldable pub paired : List Float → List Float → Lines
 paired c d =
     let x = table 10 (inTurn (table 5 (rootsIn c (crossings c))) (table 5 (rootsIn d (crossings d)))) in
-    answer (first ((7, ltb (crossings c .count) 5) ∷ (7, ltb (crossings d .count) 5) ∷ (7, not (falling 9 x)) ∷ [])) refusedLines
-    (record { status = 0; lines = x })
+    answer (first ((7, ltb (crossings c .count) 5) ∷ (7, ltb (crossings d .count) 5) ∷ (7, not (falling 9 x)) ∷ []))
+    refusedLines (record { status = 0; lines = x })
 
 -- 5 for any coefficient, entry 0 too
 unfoldable pub lpcToLsp : List Float → Lines

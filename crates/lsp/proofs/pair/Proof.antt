@@ -1,6 +1,5 @@
 -- `lsp::pair` meets its contract: each of its tests is the definition's, of what the calls before it answered, so the
--- first one that holds refuses
--- with 7, and where none does the ten roots are the answer. Assumes nothing.
+-- first one that holds refuses with 7, and where none does the ten roots are the answer. Assumes nothing.
 use mathlib.Core.Path.{_≡_, refl}
 use mathlib.Core.Bool.{Bool, true, false, not}
 use mathlib.Core.List.{List}
