@@ -42,7 +42,7 @@ run-spec =
     -- array-write-xs
     (λ c. search needs)
     -- loop-holds
-    (λ c. cascaded-none _ _ _ _ _ _ (c .before .before .before .before .before .before .before .delayed .ensures) (c .before .before .before .before .before .delayed2 .ensures) (c .before .before .before .delayed3 .ensures) _ (search needs) (c .synthesise-sample .ensures))
+    (λ c. search (needs, cascaded-none))
     -- add-s
     (λ c. search needs)
     -- mul-s
@@ -84,7 +84,7 @@ run-spec =
     -- loop-less
     (λ c. search needs)
     -- loop-again
-    (λ c. cascaded-more _ _ _ _ _ _ _ (c .before .before .before .before .before .before .before .before .before .loop .inv) _ _ refl (c .before .before .before .weight-sample .ensures) (c .before .before .before .before .before .before .before .before .loop-test .taken) _ _ refl (c .synthesise-sample2 .ensures))
+    (λ c. search cascaded-more)
     -- array-read-s-2
     (λ c. search needs)
     -- weight-sample-requires-2
@@ -104,5 +104,4 @@ run-spec =
     -- last-inputs-requires
     (λ c κs. search needs)
     -- returns
-    (λ c. cascaded-end _ _ _ _ _ _ _ _ _ _ _ _ _ _ _ _ _ _ _ (c .before .before .before .before .before .before .before .before .before .before .before .before .before .before .before .before .before .before .before .before .before .before .before .before .before .before .before .before .before .pre .0) (c .before .before .before .before .before .before .before .before .before .before .before .before .before .before .before .before .before .before .before .before .before .before .before .delayed .ensures) (c .before .before .before .before .before .before .before .before .before .before .before .before .before .before .before .before .before .before .before .before .before .delayed2 .ensures) (c .before .before .before .before .before .before .before .before .before .before .before .before .before .before .before .before .before .before .before .delayed3 .ensures) (c .before .before .before .before .before .before .before .before .before .before .before .before .before .before .loop-test .left) refl (c .before .before .before .before .before .before .before .before .before .weight-sample2 .ensures)
-    (c .before .before .before .before .before .before .before .before .harmonic-inputs .ensures) (c .before .before .before .before .before .before .before .shape .ensures) (c .before .before .before .before .before .last-ten .ensures) (c .before .before .before .last-ten2 .ensures) (c .before .last-ten3 .ensures) (c .last-inputs .ensures) (c .before .before .before .before .before .before .before .before .before .before .before .before .before .before .before .loop .inv)))
+    (λ c. search cascaded-end))

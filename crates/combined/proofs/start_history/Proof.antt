@@ -44,4 +44,4 @@ start-history-spec =
     -- loop-again
     (λ c. (omega arith, filled-more (reach + 60) _ _ _ _ (omega arith) refl (c .before .loop .inv .1)))
     -- returns
-    (λ c. copied (c .before .before .args .t1) (c .before .loop .p) (c .before .loop .i) (search needs) (omega arith) (c .before .loop .inv .1)))
+    (λ c. search (needs, copied)))
