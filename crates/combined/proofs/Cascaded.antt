@@ -39,7 +39,8 @@ module _ (q : Settings) (input : List Float) (mem : CombinedMem) where
     same-held : held (mem .«p_hist») (set syn 10 s) (set xs 10 s) fs ≡ mem
     same-held = rw (behind-set 0 10 syn s (omega arith), behind-set 0 10 xs s (omega arith), ls .start, lx .start, lf .start)
 
-    first-run : length (mem .«p_hist») ≡ reach → s ≡ synthesised (q .aq) (at syn 10) (behind 0 syn) → Cascaded q input mem 0 (set syn 10 s) (set xs 10 s) fs
+    first-run : length (mem .«p_hist») ≡ reach → s ≡ synthesised (q .aq) (at syn 10) (behind 0 syn)
+        → Cascaded q input mem 0 (set syn 10 s) (set xs 10 s) fs
     unfolding times
     first-run full e =
         let r : Synthesis q input mem 0 syn = record { long = ls .long; memory = ls .start; left = ls .rest } in
@@ -56,12 +57,15 @@ module _ (q : Settings) (input : List Float) (mem : CombinedMem) where
         }
 
     -- as the loop has it, which sees the delays only
-    pub cascaded-none : length (mem .«p_hist») ≡ reach → s ≡ synthesised (q .aq) (at syn 10) (behind 0 syn) → Cascaded q (drop 10 fs) (held (mem .«p_hist») (set syn 10 s) (set xs 10 s) fs) 0 (set syn 10 s) (set xs 10 s) fs
+    pub cascaded-none : length (mem .«p_hist») ≡ reach → s ≡ synthesised (q .aq) (at syn 10) (behind 0 syn)
+        → Cascaded q (drop 10 fs) (held (mem .«p_hist») (set syn 10 s) (set xs 10 s) fs) 0 (set syn 10 s) (set xs 10 s) fs
     cascaded-none full e = rw (same-held, lf .rest) (first-run full e)
 
-  module _ (n : ℕ) (syn xs fs : List Float) (r : Cascaded q input mem n syn xs fs) (s f : Float) (ds : s ≡ at xs (n + 10)) (ef : f ≡ weighted (q .wz) (q .wp) s (behind n xs) (behind n fs)) where
+  module _ (n : ℕ) (syn xs fs : List Float) (r : Cascaded q input mem n syn xs fs)
+      (s f : Float) (ds : s ≡ at xs (n + 10)) (ef : f ≡ weighted (q .wz) (q .wp) s (behind n xs) (behind n fs)) where
     -- the next sample is weighed, and the one after it synthesised
-    pub cascaded-more : n < 59 → (x t : Float) → x ≡ at syn (n + 11) → t ≡ synthesised (q .aq) x (behind (n + 1) syn) → Cascaded q input mem (n + 1) (set syn (n + 11) t) (set xs (n + 11) t) (set fs (n + 10) f)
+    pub cascaded-more : n < 59 → (x t : Float) → x ≡ at syn (n + 11) → t ≡ synthesised (q .aq) x (behind (n + 1) syn)
+        → Cascaded q input mem (n + 1) (set syn (n + 11) t) (set xs (n + 11) t) (set fs (n + 10) f)
     cascaded-more h x t dx et =
         let a : n + 11 ≡ n + 1 + 10 = omega arith in
         let d : x ≡ at syn (n + 1 + 10) = dx ∙ ap (at syn) a in
@@ -74,7 +78,9 @@ module _ (q : Settings) (input : List Float) (mem : CombinedMem) where
         }
 
     -- the last sample is weighed, and the stage after the delays follows
-    pub cascaded-all : n ≡ 59 → 1 ≤ q .lag → (p out a b c h : List Float) → p ≡ mem .«p_hist» ++ drop 10 (set fs (n + 10) f) → out ≡ table 60 (shaped (q .lag) (q .beta) p) → a ≡ behind (n + 1) syn → b ≡ behind (n + 1) xs → c ≡ behind (n + 1) (set fs (n + 10) f) → h ≡ drop 60 p → _≡_ {A = Combined} (record { status = 0; out = out; mem = record { syn = a; wz = b; wp = c; «p_hist» = h } }) (done (cascaded q input mem (n + 1)))
+    pub cascaded-all : n ≡ 59 → 1 ≤ q .lag → (p out a b c h : List Float) → p ≡ mem .«p_hist» ++ drop 10 (set fs (n + 10) f) → out ≡ table 60 (shaped (q .lag) (q .beta) p)
+        → a ≡ behind (n + 1) syn → b ≡ behind (n + 1) xs → c ≡ behind (n + 1) (set fs (n + 10) f) → h ≡ drop 60 p
+        → _≡_ {A = Combined} (record { status = 0; out = out; mem = record { syn = a; wz = b; wp = c; «p_hist» = h } }) (done (cascaded q input mem (n + 1)))
     cascaded-all e low p out a b c h ep eo ea eb ec eh =
         let k = cascaded q input mem (n + 1) in
         let w = weighed-more q input mem n (omega arith) xs (r .fed) fs s f (r .weighed) ds ef in
@@ -90,8 +96,14 @@ module _ (q : Settings) (input : List Float) (mem : CombinedMem) where
         rw (ta, tb, tc, th, to)
 
 -- all sixty, from delays that start with the memory and the input given
-pub cascaded-end : (q : Settings) (input : List Float) (mem : CombinedMem) (syn₀ xs₀ fs₀ : List Float) (s₀ : Float) (n : ℕ) (syn xs fs : List Float) (s f : Float) (p out a b c h : List Float) → 18 ≤ q .lag → Delay (mem .syn) input syn₀ → Delay (mem .wz) input xs₀ → Delay (mem .wp) input fs₀ → 59 ≤ n → s ≡ at xs 69 → f ≡ weighted (q .wz) (q .wp) s (behind 59 xs) (behind 59 fs) → p ≡ mem .«p_hist» ++ drop 10 (set fs 69 f) → out ≡ table 60 (shaped (q .lag) (q .beta) p) → a ≡ behind 60 syn → b ≡ behind 60 xs → c ≡ behind 60 (set fs 69 f) → h ≡ drop 60 p → Cascaded q (drop 10 fs₀) (held (mem .«p_hist») (set syn₀ 10 s₀) (set xs₀ 10 s₀) fs₀) n syn xs fs → _≡_ {A = Combined} (record { status = 0; out = out; mem = record { syn = a; wz = b; wp = c; «p_hist» = h } }) (done (cascaded q input mem 60))
-cascaded-end q input mem syn₀ xs₀ fs₀ s₀ n syn xs fs s f p out a b c h low ls lx lf late ds ef ep eo ea eb ec eh r =
+pub cascaded-end : {q : Settings} {input : List Float} (mem : CombinedMem) {syn₀ xs₀ fs₀ : List Float} (s₀ : Float) {n : ℕ} {syn xs fs : List Float} {s f : Float} {p out a b c h : List Float}
+    → 18 ≤ q .lag → Delay (mem .syn) input syn₀ → Delay (mem .wz) input xs₀ → Delay (mem .wp) input fs₀
+    → 59 ≤ n → s ≡ at xs 69 → f ≡ weighted (q .wz) (q .wp) s (behind 59 xs) (behind 59 fs)
+    → p ≡ mem .«p_hist» ++ drop 10 (set fs 69 f) → out ≡ table 60 (shaped (q .lag) (q .beta) p)
+    → a ≡ behind 60 syn → b ≡ behind 60 xs → c ≡ behind 60 (set fs 69 f) → h ≡ drop 60 p
+    → Cascaded q (drop 10 fs₀) (held (mem .«p_hist») (set syn₀ 10 s₀) (set xs₀ 10 s₀) fs₀) n syn xs fs
+    → _≡_ {A = Combined} (record { status = 0; out = out; mem = record { syn = a; wz = b; wp = c; «p_hist» = h } }) (done (cascaded q input mem 60))
+cascaded-end {q} {input} mem {syn₀} {xs₀} {fs₀} s₀ {n} {syn} {xs} {fs} {s} {f} {p} {out} {a} {b} {c} {h} low ls lx lf late ds ef ep eo ea eb ec eh r =
     let e : n ≡ 59 = omega (arith, r .bound) in
     let g : Cascaded q input mem 59 syn xs fs = rw (same-held q input mem syn₀ xs₀ fs₀ ls lx lf s₀, lf .rest, e) at r in
     cascaded-all q input mem 59 syn xs fs g s f ds ef refl (omega arith) p out a b c h ep eo ea eb ec eh

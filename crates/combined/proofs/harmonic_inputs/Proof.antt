@@ -41,6 +41,6 @@ harmonic-inputs-spec =
     -- loop-less
     (λ c. search needs)
     -- loop-again
-    (λ c. joined-more _ (c .before .before .before .args .t2) _ _ (search needs) (c .loop-test .taken) (c .before .loop .inv))
+    (λ c. search (needs, joined-more))
     -- returns
-    (λ c. joined-all _ (c .before .before .before .args .t2) (c .before .before .start-history .result) _ _ (search needs) (c .loop-test .left) (c .before .before .start-history .ensures) (c .before .loop .inv)))
+    (λ c. search (needs, joined-all)))

@@ -42,7 +42,7 @@ run-spec =
     -- array-write-xs
     (λ c. search needs)
     -- loop-holds
-    (λ c. cascaded-none _ _ _ _ _ _ (c .before .before .before .before .before .before .before .delayed .ensures) (c .before .before .before .before .before .delayed2 .ensures) (c .before .before .before .delayed3 .ensures) _ (search needs) (c .synthesise-sample .ensures))
+    (λ c. search (needs, cascaded-none))
     -- add-s
     (λ c. search needs)
     -- mul-s
@@ -84,7 +84,10 @@ run-spec =
     -- loop-less
     (λ c. search needs)
     -- loop-again
-    (λ c. cascaded-more _ _ _ _ _ _ _ (c .before .before .before .before .before .before .before .before .before .loop .inv) _ _ refl (c .before .before .before .weight-sample .ensures) (c .before .before .before .before .before .before .before .before .loop-test .taken) _ _ refl (c .synthesise-sample2 .ensures))
+    (λ c.
+    let weighed = c .before .before .before in
+    let turned = weighed .before .before .before .before .before in
+    cascaded-more _ _ _ _ _ _ _ (turned .before .loop .inv) _ _ refl (weighed .weight-sample .ensures) (turned .loop-test .taken) _ _ refl (c .synthesise-sample2 .ensures))
     -- array-read-s-2
     (λ c. search needs)
     -- weight-sample-requires-2
@@ -104,5 +107,17 @@ run-spec =
     -- last-inputs-requires
     (λ c κs. search needs)
     -- returns
-    (λ c. cascaded-end _ _ _ _ _ _ _ _ _ _ _ _ _ _ _ _ _ _ _ (c .before .before .before .before .before .before .before .before .before .before .before .before .before .before .before .before .before .before .before .before .before .before .before .before .before .before .before .before .before .pre .0) (c .before .before .before .before .before .before .before .before .before .before .before .before .before .before .before .before .before .before .before .before .before .before .before .delayed .ensures) (c .before .before .before .before .before .before .before .before .before .before .before .before .before .before .before .before .before .before .before .before .before .delayed2 .ensures) (c .before .before .before .before .before .before .before .before .before .before .before .before .before .before .before .before .before .before .before .delayed3 .ensures) (c .before .before .before .before .before .before .before .before .before .before .before .before .before .before .loop-test .left) refl (c .before .before .before .before .before .before .before .before .before .weight-sample2 .ensures)
-    (c .before .before .before .before .before .before .before .before .harmonic-inputs .ensures) (c .before .before .before .before .before .before .before .shape .ensures) (c .before .before .before .before .before .last-ten .ensures) (c .before .before .before .last-ten2 .ensures) (c .before .last-ten3 .ensures) (c .last-inputs .ensures) (c .before .before .before .before .before .before .before .before .before .before .before .before .before .before .before .loop .inv)))
+    (λ c.
+    -- from the last call back to the start
+    let poles = c .before in
+    let zeros = poles .before .before in
+    let synthesis = zeros .before .before in
+    let shaped = synthesis .before .before in
+    let inputs = shaped .before in
+    let weighed = inputs .before in
+    let left = weighed .before .before .before .before .before in
+    let delays = left .before .before .before .before .before in
+    let start = delays .before .before .before .before .before .before .before .before .before .before in
+    cascaded-end _ _ (start .pre .0) (delays .before .before .before .before .delayed .ensures) (delays .before .before .delayed2 .ensures) (delays .delayed3 .ensures)
+    (left .loop-test .left) refl (weighed .weight-sample2 .ensures) (inputs .harmonic-inputs .ensures) (shaped .shape .ensures)
+    (synthesis .last-ten .ensures) (zeros .last-ten2 .ensures) (poles .last-ten3 .ensures) (c .last-inputs .ensures) (left .before .loop .inv)))

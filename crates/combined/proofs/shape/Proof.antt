@@ -46,6 +46,6 @@ shape-spec =
     -- loop-less
     (λ c. search needs)
     -- loop-again
-    (λ c. filled-more 60 _ _ _ _ (c .before .loop-test .taken) (c .take-product .ensures) (c .before .before .loop .inv))
+    (λ c. search filled-more)
     -- returns
-    (λ c. filled-all 60 _ _ _ (c .loop-test .left) (c .before .loop .inv)))
+    (λ c. search filled-all))

@@ -37,6 +37,6 @@ delayed-spec =
     -- loop-less
     (λ c. search needs)
     -- loop-again
-    (λ c. laid-more _ _ _ _ (c .before .before .before .before .before .pre) (c .before .loop-test .taken) (c .before .before .loop .inv))
+    (λ c. search laid-more)
     -- returns
-    (λ c. laid-all _ _ _ _ _ (c .before .before .before .before .pre) (c .loop-test .left) (c .before .before .start-delay .ensures) (c .before .loop .inv)))
+    (λ c. search laid-all))

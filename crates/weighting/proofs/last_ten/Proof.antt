@@ -38,6 +38,6 @@ last-ten-spec =
     -- loop-less
     (λ c. search needs)
     -- loop-again
-    (λ c. filled-more 10 _ _ _ _ (c .before .loop-test .taken) refl (c .before .before .loop .inv))
+    (λ c. search filled-more)
     -- returns
-    (λ c. filled-all 10 _ _ _ (c .loop-test .left) (c .before .loop .inv)))
+    (λ c. search filled-all))

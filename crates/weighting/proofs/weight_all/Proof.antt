@@ -49,12 +49,13 @@ weight-all-spec =
     -- loop-less
     (λ c. search needs)
     -- loop-again
-    (λ c. running-more _ _ _ _ _ _ _ _ (c .before .before .before .before .before .before .before .before .before .before .before .pre) (c .before .before .before .before .before .loop-test .taken) (c .before .before .before .before .before .before .loop .inv)
-    _ _ _ (own-delay (c .before .before .before .before .before .before .before .before .before .delayed .ensures)) refl (c .weight-sample .ensures))
+    (λ c.
+    let turned = c .before .before .before .before .before .before in
+    let inputs = own-delay (turned .before .before .before .delayed .ensures) in
+    running-more _ _ _ _ _ _ _ _ (search) (search) (turned .loop .inv) _ _ _ inputs refl (c .weight-sample .ensures))
     -- last-ten-requires
     (λ c κs. search needs)
     -- last-ten-requires-2
     (λ c κs. search needs)
     -- returns
-    (λ c. running-all _ _ _ _ _ _ _ _ _ _ _ _ (c .before .before .before .before .before .before .before .before .before .before .pre) (c .before .before .before .before .before .before .before .before .delayed .ensures) (c .before .before .before .before .before .before .before .start-delay .ensures)
-    (c .before .before .before .before .loop-test .left) (c .before .before .last-ten .ensures) (c .last-ten2 .ensures) (c .before .before .before .before .before .loop .inv)))
+    (λ c. search running-all))

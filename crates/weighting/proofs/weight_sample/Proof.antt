@@ -20,7 +20,9 @@ abbrev μ-loop : tie.MeasureT-loop
 μ-loop x n wz wp xs fs f₀ k₀ f k = 10 - k
 
 -- one turn: the delays' values are those of the memories
-turn : (n : ℕ) (wz wp xs fs : List Float) (x : Float) (k : ℕ) (f g : Float) → k < 10 → g ≡ f ⊕ (at wz k ⊗ at xs (n + 9 - k) ⊖ at wp k ⊗ at fs (n + 9 - k)) → Went 0 10 (addTap wz wp (behind n xs) (behind n fs)) x k f → Went 0 10 (addTap wz wp (behind n xs) (behind n fs)) x (k + 1) g
+turn : (n : ℕ) (wz wp xs fs : List Float) (x : Float) (k : ℕ) (f g : Float) → k < 10
+    → g ≡ f ⊕ (at wz k ⊗ at xs (n + 9 - k) ⊖ at wp k ⊗ at fs (n + 9 - k)) → Went 0 10 (addTap wz wp (behind n xs) (behind n fs)) x k f
+    → Went 0 10 (addTap wz wp (behind n xs) (behind n fs)) x (k + 1) g
 unfolding addTap
 turn n wz wp xs fs x k f g h e r = went-more 0 10 _ _ k f g h (e ∙ rw (at-behind n xs k h, at-behind n fs k h)) r
 
@@ -64,6 +66,6 @@ weight-sample-spec =
     -- loop-less
     (λ c. search needs)
     -- loop-again
-    (λ c. turn (c .before .before .before .before .before .before .before .args .n) (c .before .before .before .before .before .before .before .args .wz .now) (c .before .before .before .before .before .before .before .args .wp .now) (c .before .before .before .before .before .before .before .args .xs .now) (c .before .before .before .before .before .before .before .args .fs .now) _ _ _ _ (search needs) (c .add-tap .ensures) (c .before .before .before .before .before .before .loop .inv))
+    (λ c. search turn)
     -- returns
-    (λ c. went-all 0 10 _ _ _ _ (c .loop-test .left) (c .before .loop .inv)))
+    (λ c. search went-all))
