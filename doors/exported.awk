@@ -56,7 +56,7 @@ FNR == 1 { split("", number) }
 /^#\[repr\(C\)\]/ { shaped = 1; next }
 shaped && /^pub struct / { structure = element_of($3); shaped = 0; next }
 shaped && !/^#\[/ { shaped = 0 }
-structure != "" && /^}/ { structure = "" }
+structure != "" && /^[}]/ { structure = "" }
 structure != "" && /^ *pub [a-z0-9_]+: / {
     text = $0
     sub(/^ *pub /, "", text)
@@ -69,7 +69,7 @@ structure != "" && /^ *pub [a-z0-9_]+: / {
 index(FILENAME, exports) == 1 && /^pub extern "C" fn / { head = ""; began = FNR; reading = 1 }
 reading {
     head = head " " $0
-    if (head !~ /\) *-> *[a-z0-9]+/ && head !~ /\) *({|$)/) next
+    if (head !~ /\) *-> *[a-z0-9]+/ && head !~ /\) *([{]|$)/) next
     reading = 0
     gsub(/[ \t]+/, " ", head)
     at = index(head, "(")
