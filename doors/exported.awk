@@ -5,7 +5,7 @@
 #   takes      NAME PARAMETER WAY ELEMENT MANY COUNT    WAY: Read, Lent (&mut) or Value; a slice is one parameter here
 #   shape      STRUCT FIELD ELEMENT COUNT
 #
-# Variable: exports, the file whose functions count.
+# Variable: exports, how the names of the files begin whose functions count.
 
 BEGIN {
     OFS = "\t"
@@ -46,6 +46,8 @@ function array_of(text,  list) {
     kind = element_of(text)
 }
 
+# a const is its file's own
+FNR == 1 { split("", number) }
 /^(pub )?const [A-Z0-9_]+: usize = [0-9]+;/ {
     sub(/^pub /, "")
     number[substr($2, 1, length($2) - 1)] = $5 + 0
@@ -54,7 +56,7 @@ function array_of(text,  list) {
 /^#\[repr\(C\)\]/ { shaped = 1; next }
 shaped && /^pub struct / { structure = element_of($3); shaped = 0; next }
 shaped && !/^#\[/ { shaped = 0 }
-structure != "" && /^}/ { structure = "" }
+structure != "" && /^[}]/ { structure = "" }
 structure != "" && /^ *pub [a-z0-9_]+: / {
     text = $0
     sub(/^ *pub /, "", text)
@@ -64,10 +66,10 @@ structure != "" && /^ *pub [a-z0-9_]+: / {
     print "shape", structure, substr(text, 1, at - 1), kind, many
 }
 
-FILENAME == exports && /^pub extern "C" fn / { head = ""; began = FNR; reading = 1 }
+index(FILENAME, exports) == 1 && /^pub extern "C" fn / { head = ""; began = FNR; reading = 1 }
 reading {
     head = head " " $0
-    if (head !~ /\) *-> *[a-z0-9]+/ && head !~ /\) *({|$)/) next
+    if (head !~ /\) *-> *[a-z0-9]+/ && head !~ /\) *([{]|$)/) next
     reading = 0
     gsub(/[ \t]+/, " ", head)
     at = index(head, "(")

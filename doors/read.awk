@@ -106,7 +106,7 @@ function read_directive(text) {
 
 function read_enumerator(  list, text) {
     if (commenting) fail(FNR, "what an enumerator means stands on its line")
-    if (code ~ /^} *;$/) inside = ""
+    if (code ~ /^[}] *;$/) inside = ""
     else {
         text = code
         sub(/,$/, "", text)
@@ -125,7 +125,7 @@ function read_enumerator(  list, text) {
 
 function read_field(  list, n, type, name, many) {
     if (commenting) fail(FNR, "what a field means stands on its line")
-    if (code ~ /^} *[a-z0-9_]+ *;$/) {
+    if (code ~ /^[}] *[a-z0-9_]+ *;$/) {
         name = code
         gsub(/[} ;]/, "", name)
         print "struct", name
@@ -152,14 +152,14 @@ function read_field(  list, n, type, name, many) {
 # ---- everything else ends with a semicolon
 
 function read_statement() {
-    if (code ~ /^enum *{$/) {
+    if (code ~ /^enum *[{]$/) {
         inside = "enum"
         enumerators = 0
         code = ""
         comments = 0
         return
     }
-    if (code ~ /^typedef struct *[a-z0-9_]* *{$/) {
+    if (code ~ /^typedef struct *[a-z0-9_]* *[{]$/) {
         inside = "struct"
         fields = 0
         code = ""

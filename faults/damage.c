@@ -2,8 +2,6 @@
 
 #include <string.h>
 
-#include "g7231.h"
-
 #define PICK(random, list) ((list)[random_below(random, sizeof(list) / sizeof *(list))])
 
 static const size_t lengths[] = {0,   1,   59,  60,  61,  145, 179, 180, 181, 204,  205,
@@ -16,8 +14,11 @@ static const size_t sizes[] = {0,   1,   2,   3,   4,   5,   144, 145,          
                                205, 206, 264, 265, 266, 324, 325, 326,          385,          1988,          1989,
                                SIZE_MAX, SIZE_MAX - 59, SIZE_MAX - 60, SIZE_MAX - 144, SIZE_MAX / 2, SIZE_MAX / 120};
 
-static const uint32_t numbers[] = {0,   1,   17,  18,         19,         60,         141,       142,       143,
-                                   144, 145, 146, 0x7fffffff, 0x80000000, 0xffffffff, 0xfffffff, 0x1000000, 66051};
+static const uint32_t numbers[] = {
+    0,   1,     2,      3,      7,       8,     9,          17,         18,         19,
+    60,  141,   142,    143,    144,     145,   146,        255,        256,        359,
+    360, 361,   0x7fff, 0x8000, 0xffff,  66051, 0x7fffffff, 0x80000000, 0xffffffff, 0xfffffff,
+    0xffffff, 0x1000000};
 
 /* Zeros, the least and greatest subnormal and normal numbers, powers, bounds of the refusals and what lies beside them,
  * infinities, quiet and signalling NaNs. */
@@ -89,7 +90,7 @@ static int is_exact(const struct door *door, unsigned at)
         argument[i] = given.value[i];
         if (is_buffer(&door->parameter[i])) argument[i].place = is_written(&door->parameter[i]) ? made[i].byte : given.room[i].byte;
     }
-    known[number][at] = doors[number].bare(argument) == G7231_LENGTH ? 2 : 1;
+    known[number][at] = doors[number].bare(argument) != 0 ? 2 : 1;
     return known[number][at] == 2;
 }
 
@@ -138,8 +139,11 @@ void make_damaged(const struct door *door, struct random *random, struct given *
     const size_t way = random_below(random, WAYS);
     for (unsigned i = 0; i < door->count; i++) {
         const struct parameter *parameter = &door->parameter[i];
-        if (parameter->many == SLICE && random_below(random, 4) == 0)
-            set_length(parameter, given, i, PICK(random, lengths));
+        if (parameter->many == SLICE && random_below(random, 4) == 0) {
+            /* beside the length that is enough, or any */
+            const size_t beside = parameter->count + 1 - random_below(random, 3);
+            set_length(parameter, given, i, random_below(random, 2) ? beside : PICK(random, lengths));
+        }
         if (parameter->way == MADE || parameter->many == LENGTH) continue;
         if (!is_buffer(parameter)) {
             if (way != VALID && random_below(random, 3) == 0) disturb_value(parameter, random, &given->value[i]);

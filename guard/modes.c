@@ -47,7 +47,7 @@ enum { MODES = sizeof modes / sizeof modes[0] };
 struct answer {
     uint32_t status;
     size_t bytes;
-    unsigned char byte[ROOM_BYTES];
+    unsigned char byte[MOST * ROOM_BYTES];
 };
 
 /* Calls a door on copies of its inputs in the mode; answers the mode word as it stood after the call. */

@@ -10,9 +10,9 @@
  * host that is sure of IEEE's default mode may call the bare forms, which do not
  * look at it: g7231_bare.h has them.
  *
- * Threads and memory. Nothing is kept between calls and nothing is allocated, so
- * any threads may call at any time, each on its own buffers. A call takes less
- * than 16 KB of stack.
+ * Threads and memory. Every function is reentrant: nothing is kept between calls
+ * and nothing is allocated, so any threads may call at once, as long as no one
+ * writes a buffer that another call has. A call takes less than 16 KB of stack.
  *
  * Buffers have the lengths written here and may not be null. Buffers of one call
  * may not overlap, but for this: buffers of floats that are only read (const) may

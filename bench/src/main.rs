@@ -28,7 +28,8 @@ bench: time the doors of the library in their bare forms, each beside the publis
 It prints a table in markdown, with a dash where the Rust has no such function. The last row is the sum over the calls of
 one frame, from the rows above it. Inputs are drawn by the words with which the header says what a parameter holds.
 bench/run builds it, counts instructions and runs it.
-Exit status: 0 done; 1 the Rust is not at hand, or a file could not be read or written; 2 bad usage.
+Exit status: 0 done; 1 the Rust is not at hand, a door refuses what is drawn for it, or a file could not be read or
+written; 2 bad usage.
 ";
 
 fn main() {
