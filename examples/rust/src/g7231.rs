@@ -194,8 +194,7 @@ pub fn run_combined(
     let mut out = [0.0; 60];
     let CombinedMem { syn, wz, wp, p_hist } = mem;
     let Shaping { lag, beta } = shaping;
-    let status =
-        unsafe { g7231_run_combined(syn, wz, wp, p_hist, input, aq, &taps.wz, &taps.wp, lag, beta, &mut out) };
+    let status = unsafe { g7231_run_combined(syn, wz, wp, p_hist, input, aq, &taps.wz, &taps.wp, lag, beta, &mut out) };
     answer(status, out)
 }
 
