@@ -103,7 +103,7 @@ struct place {
 };
 static struct place places[MOST];
 
-static void lay_out(const struct given *given, struct random *random, union argument argument[MOST])
+static void lay_out_fenced(const struct given *given, struct random *random, union argument argument[MOST])
 {
     for (unsigned i = 0; i < at.door->count; i++) {
         const struct parameter *parameter = &at.door->parameter[i];
@@ -193,7 +193,7 @@ static void turn(const struct door *door, struct tally *tally)
     for (int i = 0; i < 4; i++) {
         at.layout = i / 2 == 0 ? AT_END : AT_START;
         at.form = i % 2 == 0 ? BARE : SAFE;
-        lay_out(&given, &random, argument);
+        lay_out_fenced(&given, &random, argument);
         call *const function = at.form == BARE ? door->bare : door->safe;
         at.calling = 1;
         const uint32_t status = function(argument);

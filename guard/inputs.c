@@ -202,6 +202,15 @@ void make_valid(const struct door *door, struct random *random, struct given *gi
     }
 }
 
+void lay_out(const struct door *door, struct given *given, union room made[MOST], union argument argument[MOST])
+{
+    for (unsigned i = 0; i < door->count; i++) {
+        const struct parameter *parameter = &door->parameter[i];
+        argument[i] = given->value[i];
+        if (is_buffer(parameter)) argument[i].place = parameter->way == MADE ? made[i].byte : given->room[i].byte;
+    }
+}
+
 int parameter_of(const struct door *door, enum role role)
 {
     for (unsigned i = 0; i < door->count; i++)
