@@ -36,10 +36,11 @@ static int told = STDOUT_FILENO;
 static void report(const char *what)
 {
     char line[512];
+    const int bare = at.form == BARE && at.door->bare != at.door->safe;
     const int length = snprintf(line, sizeof line,
                                 "FAULT: g7231_%s%s: %s; layout: %s; seed %llu, turn %llu\n"
                                 "again: faults --seed %llu --only %s --turn %llu\n",
-                                at.form == BARE && at.door->bare != at.door->safe ? "bare_" : "", at.door->name, what, layout_names[at.layout],
+                                bare ? "bare_" : "", at.door->name, what, layout_names[at.layout],
                                 (unsigned long long)at.seed, (unsigned long long)at.turn, (unsigned long long)at.seed,
                                 at.door->name, (unsigned long long)at.turn);
     if (write(told, line, (size_t)length) != length) _exit(3);

@@ -186,7 +186,7 @@ void make_valid(const struct door *door, struct random *random, struct given *gi
         memset(&given->value[i], 0, sizeof given->value[i]);
         given->count[i] = is_buffer(parameter) ? parameter->count : 0;
         if (given->count[i] * parameter->width > ROOM_BYTES) {
-            fprintf(stderr, "%s of g7231_%s has no room: enlarge ROOM_BYTES in guard/inputs.h\n", parameter->name, door->name);
+            fprintf(stderr, "%s of g7231_%s: no room: enlarge ROOM_BYTES in guard/inputs.h\n", parameter->name, door->name);
             exit(3);
         }
         if (parameter->many == LENGTH) {
