@@ -1,8 +1,8 @@
 # Holds the header (the records of doors/read.awk) to the exported functions (those of doors/exported.awk, after them).
 # Prints each difference.
 
-function differs(what) {
-    print what
+function differs(name, what) {
+    print header (name in line ? ":" line[name] : "") ": " name " " what
     differences++
 }
 
@@ -39,23 +39,24 @@ END {
         name = doors[i]
         here[name] = 1
         if (!(name in exported)) {
-            differs(header ":" line[name] ": " name " is not exported")
+            differs(name, "is not exported")
             continue
         }
         if (many[name] != takes[name])
-            differs(header ":" line[name] ": " name " has " many[name] + 0 " parameters, and the exported one " takes[name] + 0)
+            differs(name, "has " many[name] + 0 " parameters, and the exported one " takes[name] + 0)
         for (at = 1; at <= many[name] && at <= takes[name]; at++) {
-            if (names[name, at] != its_names[name, at])
-                differs(header ":" line[name] ": " name ": parameter " at " is " names[name, at] ", of the exported one " its_names[name, at])
+            mine = names[name, at]
+            its = its_names[name, at]
+            if (mine != its) differs(name, "has " mine " as parameter " at ", the exported one " its)
             if (texts[name, at] != its_texts[name, at])
-                differs(header ":" line[name] ": " name ": " names[name, at] " is " texts[name, at] ", of the exported one " its_texts[name, at])
+                differs(name, "has " mine " as " texts[name, at] ", the exported one as " its_texts[name, at])
         }
     }
     for (i = 1; i <= exports; i++)
-        if (!(order[i] in here)) differs(header ": " order[i] " is exported and does not stand here")
+        if (!(order[i] in here)) differs(order[i], "is exported and does not stand here")
     for (name in fields)
         if (fields[name] != shapes[name])
-            differs(header ": " name " has the fields" fields[name] ", and the exported struct" (shapes[name] == "" ? " none" : shapes[name]))
+            differs(name, "has the fields" fields[name] ", the exported one" (shapes[name] == "" ? " none" : shapes[name]))
     if (differences) exit 1
     print count " doors are as they are exported"
 }

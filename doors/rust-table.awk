@@ -23,8 +23,8 @@ $1 == "parameter" {
     at = places[$2]++
     element = $5 in holds ? $5 : "Struct(std::mem::size_of::<" $5 ">())"
     many = $6 == "Fixed" || $6 == "Slice" ? $6 "(" $7 ")" : $6
-    rows[$2] = rows[$2] sprintf("            Parameter { name: \"%s\", way: Way::%s, element: Element::%s, many: Many::%s, role: \"%s\" },\n", \
-        $3, $4, element, many, $8)
+    row = "            Parameter { name: \"%s\", way: Way::%s, element: Element::%s, many: Many::%s, role: \"%s\" },\n"
+    rows[$2] = rows[$2] sprintf(row, $3, $4, element, many, $8)
     calls[$2] = calls[$2] (at ? ", " : "") given(at, $4, $5, $6, $7)
 }
 

@@ -12,9 +12,10 @@ $1 == "says" { says[$2] = says[$2] "    /// " $3 "\n" }
 $1 == "parameter" { takes[$2] = takes[$2] (takes[$2] == "" ? "" : ", ") $3 ": " rs_parameter($4, $5, $6, $7) }
 
 END {
-    for (i = 1; i <= structures; i++)
-        printf "\n#[allow(dead_code, non_camel_case_types)]\n#[repr(C)]\n#[derive(Clone, Copy, Debug)]\npub struct %s {\n%s}\n", \
-            structs[i], fields[structs[i]]
+    for (i = 1; i <= structures; i++) {
+        print "\n#[allow(dead_code, non_camel_case_types)]\n#[repr(C)]\n#[derive(Clone, Copy, Debug)]"
+        printf "pub struct %s {\n%s}\n", structs[i], fields[structs[i]]
+    }
     print "\n#[allow(dead_code)]\nunsafe extern \"C\" {"
     print "    /// What a status means, in words; never null."
     print "    pub fn g7231_refusal(status: u32) -> *const std::ffi::c_char;"

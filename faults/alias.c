@@ -90,6 +90,8 @@ static int is_float_array(const struct parameter *parameter)
     return is_buffer(parameter) && parameter->element == F32;
 }
 
+static int is_input(const struct parameter *parameter) { return is_read(parameter) && is_float_array(parameter); }
+
 /* A door that writes while it still reads: interpolate_lsp with its lines turned about. */
 static uint32_t hasty(const union argument *argument)
 {
@@ -111,8 +113,8 @@ static int misses_planted(unsigned long turns)
 
 int main(int words, char **word)
 {
-    static const char help[] = "alias [N]: calls with an input that starts where another buffer starts, N inputs for each pair\n"
-                               "(default 4000), and with all inputs in one array with each other buffer.\n"
+    static const char help[] = "alias [N]: calls with an input that starts where another buffer starts, N inputs for each\n"
+                               "pair (default 4000), and with all inputs where each other buffer starts.\n"
                                "Exit status: 0 the bits are those of buffers apart; 1 not; 2 bad usage.\n";
     unsigned long turns = 4000;
     if (words == 2 && (strcmp(word[1], "--help") == 0 || strcmp(word[1], "-h") == 0)) return fputs(help, stdout), 0;
@@ -131,7 +133,7 @@ int main(int words, char **word)
             for (unsigned one = 0; one <= door->count; one++) {
                 /* each input alone, and at last all of them */
                 const int last = one == door->count;
-                if (!last && (one == with || !is_read(&door->parameter[one]) || !is_float_array(&door->parameter[one]))) continue;
+                if (!last && (one == with || !is_input(&door->parameter[one]))) continue;
                 const unsigned sharing = last ? every : 1u << one;
                 every |= sharing;
                 if (last && (every & (every - 1)) == 0) continue; /* none, or the one that was tried */

@@ -86,10 +86,7 @@ static int is_exact(const struct door *door, unsigned at)
     union argument argument[MOST];
     make_valid(door, &random, &given);
     set_length(&door->parameter[at], &given, at, given.count[at] + 1);
-    for (unsigned i = 0; i < door->count; i++) {
-        argument[i] = given.value[i];
-        if (is_buffer(&door->parameter[i])) argument[i].place = is_written(&door->parameter[i]) ? made[i].byte : given.room[i].byte;
-    }
+    lay_out(door, &given, made, argument);
     known[number][at] = doors[number].bare(argument) != 0 ? 2 : 1;
     return known[number][at] == 2;
 }

@@ -36,10 +36,11 @@ static int told = STDOUT_FILENO;
 static void report(const char *what)
 {
     char line[512];
+    const int bare = at.form == BARE && at.door->bare != at.door->safe;
     const int length = snprintf(line, sizeof line,
                                 "FAULT: g7231_%s%s: %s; layout: %s; seed %llu, turn %llu\n"
                                 "again: faults --seed %llu --only %s --turn %llu\n",
-                                at.form == BARE && at.door->bare != at.door->safe ? "bare_" : "", at.door->name, what, layout_names[at.layout],
+                                bare ? "bare_" : "", at.door->name, what, layout_names[at.layout],
                                 (unsigned long long)at.seed, (unsigned long long)at.turn, (unsigned long long)at.seed,
                                 at.door->name, (unsigned long long)at.turn);
     if (write(told, line, (size_t)length) != length) _exit(3);
@@ -103,7 +104,7 @@ struct place {
 };
 static struct place places[MOST];
 
-static void lay_out(const struct given *given, struct random *random, union argument argument[MOST])
+static void lay_out_fenced(const struct given *given, struct random *random, union argument argument[MOST])
 {
     for (unsigned i = 0; i < at.door->count; i++) {
         const struct parameter *parameter = &at.door->parameter[i];
@@ -193,7 +194,7 @@ static void turn(const struct door *door, struct tally *tally)
     for (int i = 0; i < 4; i++) {
         at.layout = i / 2 == 0 ? AT_END : AT_START;
         at.form = i % 2 == 0 ? BARE : SAFE;
-        lay_out(&given, &random, argument);
+        lay_out_fenced(&given, &random, argument);
         call *const function = at.form == BARE ? door->bare : door->safe;
         at.calling = 1;
         const uint32_t status = function(argument);

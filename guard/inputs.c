@@ -186,7 +186,7 @@ void make_valid(const struct door *door, struct random *random, struct given *gi
         memset(&given->value[i], 0, sizeof given->value[i]);
         given->count[i] = is_buffer(parameter) ? parameter->count : 0;
         if (given->count[i] * parameter->width > ROOM_BYTES) {
-            fprintf(stderr, "%s of g7231_%s has no room: enlarge ROOM_BYTES in guard/inputs.h\n", parameter->name, door->name);
+            fprintf(stderr, "%s of g7231_%s: no room: enlarge ROOM_BYTES in guard/inputs.h\n", parameter->name, door->name);
             exit(3);
         }
         if (parameter->many == LENGTH) {
@@ -199,6 +199,15 @@ void make_valid(const struct door *door, struct random *random, struct given *gi
             for (size_t n = 0; n < count && is_buffer(parameter); n++) put_number(parameter, &given->room[i], n, x[n]);
             if (!is_buffer(parameter)) put_value(parameter, &given->value[i], x[0]);
         }
+    }
+}
+
+void lay_out(const struct door *door, struct given *given, union room made[MOST], union argument argument[MOST])
+{
+    for (unsigned i = 0; i < door->count; i++) {
+        const struct parameter *parameter = &door->parameter[i];
+        argument[i] = given->value[i];
+        if (is_buffer(parameter)) argument[i].place = parameter->way == MADE ? made[i].byte : given->room[i].byte;
     }
 }
 

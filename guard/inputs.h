@@ -35,6 +35,9 @@ struct given {
 /* A call as a coder makes it: speech, stable filters, ordered lines. */
 void make_valid(const struct door *door, struct random *random, struct given *given);
 
+/* The arguments of a call on the inputs where they stand; what is only written goes to `made`. */
+void lay_out(const struct door *door, struct given *given, union room made[MOST], union argument argument[MOST]);
+
 /* Puts a number into an element, or a value, of any kind but a struct; a whole number is held within the kind's range. */
 void put_number(const struct parameter *parameter, union room *room, size_t at, double x);
 void put_value(const struct parameter *parameter, union argument *value, double x);

@@ -244,18 +244,14 @@ static int by_size(const void *a, const void *b)
     return (x > y) - (x < y);
 }
 
-/* Lays one valid call out; the memory that a door moves on keeps moving. */
-static void lay_out(int number, union argument argument[MOST])
+/* One valid call; the memory that a door moves on keeps moving. */
+static void make_call(int number, union argument argument[MOST])
 {
     static struct given given;
     static union room made[MOST];
     struct random random = random_of(1, &doors[number], 0);
     make_valid(&doors[number], &random, &given);
-    for (unsigned i = 0; i < doors[number].count; i++) {
-        const struct parameter *parameter = &doors[number].parameter[i];
-        argument[i] = given.value[i];
-        if (is_buffer(parameter)) argument[i].place = parameter->way == MADE ? made[i].byte : given.room[i].byte;
-    }
+    lay_out(&doors[number], &given, made, argument);
 }
 
 static double median_of(double time[BATCHES])
@@ -275,7 +271,7 @@ static int cost(const char *counts)
     for (int number = 0; number < DOORS; number++) {
         static double time[3][BATCHES];
         union argument argument[MOST];
-        lay_out(number, argument);
+        make_call(number, argument);
         call *side[3] = {doors[number].bare, doors[number].safe, doors[number].safe};
         double began = now();
         for (int n = 0; n < 200; n++) side[n % 2](argument);
@@ -337,7 +333,7 @@ int main(int words, char **word)
         const long count = strtol(word[4], &end, 10);
         if (number >= 0 && (bare || strcmp(word[3], "safe") == 0) && count >= 0 && *end == 0) {
             union argument argument[MOST];
-            lay_out(number, argument);
+            make_call(number, argument);
             call *function = bare ? doors[number].bare : doors[number].safe;
             for (long n = 0; n < count; n++) function(argument);
             return 0;

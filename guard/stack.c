@@ -61,11 +61,7 @@ static size_t deepest(int number, int safe)
         struct random random = random_of(1, door, turn);
         struct job job = {.function = safe ? door->safe : door->bare};
         make_valid(door, &random, &given);
-        for (unsigned i = 0; i < door->count; i++) {
-            const struct parameter *parameter = &door->parameter[i];
-            job.argument[i] = given.value[i];
-            if (is_buffer(parameter)) job.argument[i].place = parameter->way == MADE ? made[i].byte : given.room[i].byte;
-        }
+        lay_out(door, &given, made, job.argument);
         const size_t bytes = depth(&job);
         if (bytes > most) most = bytes;
     }

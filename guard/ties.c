@@ -9,11 +9,7 @@ static uint32_t lag_with(const struct door *door, struct given *given, size_t at
     static union room made[MOST];
     uint32_t lag = 0;
     given->room[0].word[at] = word_of((float)sample);
-    for (unsigned i = 0; i < door->count; i++) {
-        argument[i] = given->value[i];
-        if (is_buffer(&door->parameter[i])) argument[i].place = given->room[i].byte;
-        if (door->parameter[i].way == MADE) argument[i].place = made[i].byte;
-    }
+    lay_out(door, given, made, argument);
     door->bare(argument);
     for (unsigned i = 0; i < door->count; i++)
         if (door->parameter[i].way == MADE && door->parameter[i].element == U32) lag = made[i].word[0];

@@ -16,7 +16,11 @@ fn main() {
                 Some(Many::Slice(n)) if p.many == Many::Length => n,
                 _ => 0,
             };
-            list.push(if lent { Argument { place: rooms[i].as_mut_ptr() as *mut u8 } } else { Argument { size: enough } });
+            list.push(if lent {
+                Argument { place: rooms[i].as_mut_ptr() as *mut u8 }
+            } else {
+                Argument { size: enough }
+            });
             shape += &format!(" {} {:?} {:?} {:?} {:?};", p.name, p.way, p.element, p.many, p.role);
         }
         let (safe, bare) = unsafe { ((door.safe)(&list), (door.bare)(&list)) };

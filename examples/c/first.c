@@ -16,7 +16,7 @@ int main(void)
         fprintf(stderr, "not coded: %s\n", g7231_refusal(status));
         return 1;
     }
-    printf("index %" PRIu32 ", which the decoder makes", index);
+    printf("index %" PRIu32 " decodes to", index);
     for (int i = 0; i < G7231_ORDER; i++) printf(" %.1f", set[i]);
     printf("\n");
 

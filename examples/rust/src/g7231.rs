@@ -42,7 +42,7 @@ fn answer<T>(status: u32, made: T) -> Result<T, Refusal> {
 #[derive(Clone, Copy, Default)]
 pub struct LpcSet {
     pub a: Filter,
-    pub r: [f64; 11],
+    pub r: [f64; G7231_FILTER],
     pub k2: f32,
 }
 
@@ -56,21 +56,21 @@ pub fn lpc_analysis(window: &[f32]) -> Result<LpcSet, Refusal> {
 
 /// The line spectral pairs of a filter, as ten cosines that fall.
 pub fn lpc_to_lsp(a: &Filter) -> Result<Lines, Refusal> {
-    let mut lsp = [0.0; 10];
+    let mut lsp = [0.0; G7231_ORDER];
     let status = unsafe { g7231_lpc_to_lsp(a, &mut lsp) };
     answer(status, lsp)
 }
 
 /// Line cosines to frequencies.
 pub fn lsp_cosines_to_freq(cosines: &Lines) -> Result<Lines, Refusal> {
-    let mut freq = [0.0; 10];
+    let mut freq = [0.0; G7231_ORDER];
     let status = unsafe { g7231_lsp_cosines_to_freq(cosines, &mut freq) };
     answer(status, freq)
 }
 
 /// Line frequencies to cosines.
 pub fn lsp_freq_to_cosines(freq: &Lines) -> Result<Lines, Refusal> {
-    let mut cosines = [0.0; 10];
+    let mut cosines = [0.0; G7231_ORDER];
     let status = unsafe { g7231_lsp_freq_to_cosines(freq, &mut cosines) };
     answer(status, cosines)
 }
@@ -84,35 +84,35 @@ pub fn resting_set() -> Lines {
 
 /// The 24-bit index of a set after the previous one, and the set that the decoder makes of it.
 pub fn quantise_lsp_freq(p: &Lines, prev: &Lines) -> Result<(u32, Lines), Refusal> {
-    let (mut index, mut set) = (0, [0.0; 10]);
+    let (mut index, mut set) = (0, [0.0; G7231_ORDER]);
     let status = unsafe { g7231_quantise_lsp_freq(p, prev, &mut index, &mut set) };
     answer(status, (index, set))
 }
 
 /// The set of an index after the previous one.
 pub fn decode_lsp_freq(index: u32, prev: &Lines) -> Result<Lines, Refusal> {
-    let mut set = [0.0; 10];
+    let mut set = [0.0; G7231_ORDER];
     let status = unsafe { g7231_decode_lsp_freq(index, prev, &mut set) };
     answer(status, set)
 }
 
 /// Lines at least a spacing apart, and whether a pass met no pair too close.
 pub fn enforce_lsp_stability(cosines: &Lines, spacing_hz: f32) -> Result<(Lines, bool), Refusal> {
-    let (mut out, mut converged) = ([0.0; 10], 0);
+    let (mut out, mut converged) = ([0.0; G7231_ORDER], 0);
     let status = unsafe { g7231_enforce_lsp_stability(cosines, spacing_hz, &mut out, &mut converged) };
     answer(status, (out, converged != 0))
 }
 
 /// The lines of a subframe between the last frame's and this one's.
 pub fn interpolate_lsp(choice: usize, prev: &Lines, cur: &Lines) -> Result<Lines, Refusal> {
-    let mut out = [0.0; 10];
+    let mut out = [0.0; G7231_ORDER];
     let status = unsafe { g7231_interpolate_lsp(choice, prev, cur, &mut out) };
     answer(status, out)
 }
 
 /// The filter of a line set.
 pub fn lsp_to_lpc(lsp: &Lines) -> Result<Filter, Refusal> {
-    let mut a = [0.0; 11];
+    let mut a = [0.0; G7231_FILTER];
     let status = unsafe { g7231_lsp_to_lpc(lsp, &mut a) };
     answer(status, a)
 }
@@ -140,7 +140,7 @@ pub struct WeightingMem {
 
 /// 60 samples through the weighting filter.
 pub fn weight_subframe(x: &[f32], taps: &Taps, mem: &mut WeightingMem) -> Result<Subframe, Refusal> {
-    let mut out = [0.0; 60];
+    let mut out = [0.0; G7231_SUBFRAME];
     let WeightingMem { x: x_mem, f: f_mem } = mem;
     let status = unsafe { g7231_weight_subframe(x.as_ptr(), x.len(), &taps.wz, &taps.wp, x_mem, f_mem, &mut out) };
     answer(status, out)
@@ -174,12 +174,17 @@ pub struct CombinedMem {
     pub syn: Lines,
     pub wz: Lines,
     pub wp: Lines,
-    pub p_hist: [f32; 145],
+    pub p_hist: [f32; G7231_PAST],
 }
 
 impl CombinedMem {
     pub fn new() -> CombinedMem {
-        CombinedMem { syn: [0.0; 10], wz: [0.0; 10], wp: [0.0; 10], p_hist: [0.0; 145] }
+        CombinedMem {
+            syn: [0.0; G7231_ORDER],
+            wz: [0.0; G7231_ORDER],
+            wp: [0.0; G7231_ORDER],
+            p_hist: [0.0; G7231_PAST],
+        }
     }
 }
 
@@ -191,17 +196,16 @@ pub fn run_combined(
     taps: &Taps,
     shaping: Shaping,
 ) -> Result<Subframe, Refusal> {
-    let mut out = [0.0; 60];
+    let mut out = [0.0; G7231_SUBFRAME];
     let CombinedMem { syn, wz, wp, p_hist } = mem;
     let Shaping { lag, beta } = shaping;
-    let status =
-        unsafe { g7231_run_combined(syn, wz, wp, p_hist, input, aq, &taps.wz, &taps.wp, lag, beta, &mut out) };
+    let status = unsafe { g7231_run_combined(syn, wz, wp, p_hist, input, aq, &taps.wz, &taps.wp, lag, beta, &mut out) };
     answer(status, out)
 }
 
 /// The same filter's response to the unit impulse, from rest.
 pub fn combined_impulse_response(aq: &Filter, taps: &Taps, shaping: Shaping) -> Result<Subframe, Refusal> {
-    let mut out = [0.0; 60];
+    let mut out = [0.0; G7231_SUBFRAME];
     let Shaping { lag, beta } = shaping;
     let status = unsafe { g7231_combined_impulse_response(aq, &taps.wz, &taps.wp, lag, beta, &mut out) };
     answer(status, out)
