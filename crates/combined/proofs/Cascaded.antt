@@ -78,7 +78,8 @@ module _ (q : Settings) (input : List Float) (mem : CombinedMem) where
         }
 
     -- the last sample is weighed, and the stage after the delays follows
-    pub cascaded-all : n ≡ 59 → 1 ≤ q .lag → (p out a b c h : List Float) → p ≡ mem .«p_hist» ++ drop 10 (set fs (n + 10) f) → out ≡ table 60 (shaped (q .lag) (q .beta) p)
+    pub cascaded-all : n ≡ 59 → 1 ≤ q .lag → (p out a b c h : List Float)
+        → p ≡ mem .«p_hist» ++ drop 10 (set fs (n + 10) f) → out ≡ table 60 (shaped (q .lag) (q .beta) p)
         → a ≡ behind (n + 1) syn → b ≡ behind (n + 1) xs → c ≡ behind (n + 1) (set fs (n + 10) f) → h ≡ drop 60 p
         → _≡_ {A = Combined} (record { status = 0; out = out; mem = record { syn = a; wz = b; wp = c; «p_hist» = h } }) (done (cascaded q input mem (n + 1)))
     cascaded-all e low p out a b c h ep eo ea eb ec eh =

@@ -18,7 +18,8 @@ pub record Joined (history delay : List Float) (n : ℕ) (p : List Float) : Type
 pub joined-none : (delay p : List Float) → length p ≡ reach + 60 → Joined (take reach p) delay 0 p
 joined-none delay p h = record { most = zero-le; long = h; done = sym (append-nil (take reach p)) }
 
-pub joined-more : (history delay p : List Float) (n : ℕ) → length delay ≡ 70 → n < 60 → Joined history delay n p → Joined history delay (n + 1) (set p (n + reach) (at delay (n + 10)))
+pub joined-more : (history delay p : List Float) (n : ℕ) → length delay ≡ 70 → n < 60 → Joined history delay n p
+    → Joined history delay (n + 1) (set p (n + reach) (at delay (n + 10)))
 joined-more history delay p n e h r =
     let a : n + reach ≡ reach + n = omega arith in
     let b : reach + (n + 1) ≡ suc (reach + n) = omega arith in
@@ -32,7 +33,8 @@ joined-more history delay p n e h r =
       done = rw (a, b, take-suc-set p (reach + n) (at delay (n + 10)) l, r .done, c, take-suc (drop 10 delay) n nan m, v) (append-assoc history (take n (drop 10 delay)) (at (drop 10 delay) n ∷ []));
     }
 
-pub joined-all : (history delay p₀ p : List Float) (n : ℕ) → length delay ≡ 70 → 60 ≤ n → take reach p₀ ≡ history → Joined (take reach p₀) delay n p → p ≡ history ++ drop 10 delay
+pub joined-all : (history delay p₀ p : List Float) (n : ℕ) → length delay ≡ 70 → 60 ≤ n → take reach p₀ ≡ history
+    → Joined (take reach p₀) delay n p → p ≡ history ++ drop 10 delay
 joined-all history delay p₀ p n e h g r =
     let d : n ≡ 60 = omega (arith, r .most) in
     let t : take (reach + 60) p ≡ take reach p₀ ++ take 60 (drop 10 delay) = rw d at (r .done) in

@@ -69,14 +69,16 @@ module _ (q : Settings) (input : List Float) (mem : CombinedMem) (n : ℕ) (h : 
     unfolding sample
     fed-memory = behind-next n xs ∙ rw (more, r .next, r .memory)
 
-    pub fed-more : (t : Float) → n + 1 < 60 → t ≡ synthetic q input mem (n + 1) → Fed q input mem (n + 1) (set xs (n + 1 + 10) t)
+    pub fed-more : (t : Float) → n + 1 < 60 → t ≡ synthetic q input mem (n + 1)
+        → Fed q input mem (n + 1) (set xs (n + 1 + 10) t)
     fed-more t b e = record {
       long = length-set xs (n + 1 + 10) t ∙ r .long;
       memory = behind-set (n + 1) (n + 1 + 10) xs t (omega arith) ∙ fed-memory;
       next = getD-set-same xs (n + 1 + 10) t nan (omega (arith, r .long)) ∙ e;
     }
 
-    pub weighed-more : (fs : List Float) (s f : Float) → Weighed q input mem n fs → s ≡ at xs (n + 10) → f ≡ weighted (q .wz) (q .wp) s (behind n xs) (behind n fs) → Weighed q input mem (n + 1) (set fs (n + 10) f)
+    pub weighed-more : (fs : List Float) (s f : Float) → Weighed q input mem n fs → s ≡ at xs (n + 10)
+        → f ≡ weighted (q .wz) (q .wp) s (behind n xs) (behind n fs) → Weighed q input mem (n + 1) (set fs (n + 10) f)
     unfolding sample
     weighed-more fs s f w d e =
         let c = cascaded q input mem n in

@@ -43,7 +43,8 @@ module _ (x q : List Float) (o top : ℕ) where
   }
 
   -- one sample more: the delayed ones stand from k on
-  pub lanes-more : (n k : ℕ) (f : Float) (s r : FourLags) → f ≡ getD x (o + n) nan → 3 ≤ top → top ≤ o → k + top ≡ o + n → r ≡ sampleMore s x q f k → Lanes x q o n top s → Lanes x q o (n + 1) top r
+  pub lanes-more : (n k : ℕ) (f : Float) (s r : FourLags) → f ≡ getD x (o + n) nan → 3 ≤ top → top ≤ o
+      → k + top ≡ o + n → r ≡ sampleMore s x q f k → Lanes x q o n top s → Lanes x q o (n + 1) top r
   unfolding sampleMore
   lanes-more n k f s r g a b e h w =
       rw (h, g) (record {

@@ -34,7 +34,8 @@ module _ (x q : List Float) (limit l from : ℕ) (sums : EightLags) (best : Best
     shaping-winner =
         let high : l + 4 ≡ suc (min (limit + 3) (l + 3)) = omega arith in
         won
-        ∙ block preferred x q (sums .cross) (sums .power) 265 (limit + 3) 60 (l - 4) from (l + 4) nothing (pre .1 .1 .1) (omega arith) (own-sums .0) (own-sums .1) (omega arith) (omega arith)
+        ∙ block preferred x q (sums .cross) (sums .power) 265 (limit + 3) 60 (l - 4) from (l + 4) nothing
+        (pre .1 .1 .1) (omega arith) (own-sums .0) (own-sums .1) (omega arith) (omega arith)
         ∙ rules-agree (cross x (limit + 3) 60) (power x (limit + 3) 60) from (l + 4) (omega arith)
         ∙ ap (λ (a : ℕ). over a (l + 4) (λ j b. offered greater b j (cross x (limit + 3) 60 j) (power x (limit + 3) 60 j)) nothing) low
         ∙ ap (λ (b : ℕ). over (max 18 (l - 3)) b (λ j b. offered greater b j (cross x (limit + 3) 60 j) (power x (limit + 3) 60 j)) nothing) high
@@ -48,7 +49,9 @@ module _ (x q : List Float) (limit l from : ℕ) (sums : EightLags) (best : Best
       -- where the winner's sums stand among the eight
       pub placed : (best .lag ≤ l + 3) × (l + 3 - best .lag < 8)
       placed =
-          let r : (from ≤ best .lag) × (best .lag < l + 4) = within preferred (λ j. getD (sums .cross) (l - 4 + 7 - j) nan) (λ j. getD (sums .power) (l - 4 + 7 - j) nan) from (l + 4) best won (not-false _ found) in
+          let num : ℕ → Float = λ j. getD (sums .cross) (l - 4 + 7 - j) nan in
+          let den : ℕ → Float = λ j. getD (sums .power) (l - 4 + 7 - j) nan in
+          let r : (from ≤ best .lag) × (best .lag < l + 4) = within preferred num den from (l + 4) best won (not-false _ found) in
           (omega (arith, r .1), omega (arith, r .0))
 
       gain-of : getD (sums .cross) (l + 3 - best .lag) nan ⧄ getD (sums .power) (l + 3 - best .lag) nan ≡ gain x (limit + 3) 60 (best .lag)
@@ -56,9 +59,12 @@ module _ (x q : List Float) (limit l from : ℕ) (sums : EightLags) (best : Best
           let i : l + 3 - best .lag ≡ l - 4 + 7 - best .lag = omega arith in
           let above : l - 4 ≤ best .lag = omega (arith, placed .0, placed .1) in
           let below : best .lag < l - 4 + 8 = omega (arith, placed .0) in
+          let num = own (cross x (limit + 3) 60) (sums .cross) (l - 4) (best .lag) above below (own-sums .0) in
+          let kept = own (delayed q (limit + 3) 60) (sums .power) (l - 4) (best .lag) above below (own-sums .1) in
+          let den = kept ∙ kept-power x q 265 (limit + 3) 60 (best .lag) (pre .1 .1 .1) (omega arith) in
           ap (λ (k : ℕ). getD (sums .cross) k nan ⧄ getD (sums .power) k nan) i
-          ∙ ap (λ (z : Float). z ⧄ getD (sums .power) (l - 4 + 7 - best .lag) nan) (own (cross x (limit + 3) 60) (sums .cross) (l - 4) (best .lag) above below (own-sums .0))
-          ∙ ap (λ (z : Float). cross x (limit + 3) 60 (best .lag) ⧄ z) (own (delayed q (limit + 3) 60) (sums .power) (l - 4) (best .lag) above below (own-sums .1) ∙ kept-power x q 265 (limit + 3) 60 (best .lag) (pre .1 .1 .1) (omega arith))
+          ∙ ap (λ (z : Float). z ⧄ getD (sums .power) (l - 4 + 7 - best .lag) nan) num
+          ∙ ap (λ (z : Float). cross x (limit + 3) 60 (best .lag) ⧄ z) den
 
       pub one-won : (e : Float) (r : HnsParams) → e ≡ delayed q (limit + 3) 60 0
           → r ≡ settled best e (getD (sums .cross) (l + 3 - best .lag) nan ⧄ getD (sums .power) (l + 3 - best .lag) nan)
@@ -67,12 +73,14 @@ module _ (x q : List Float) (limit l from : ℕ) (sums : EightLags) (best : Best
       one-won e r d h = rw (← shaping-winner, ← kept-power x q 265 (limit + 3) 60 0 (pre .1 .1 .1) (omega arith), ← gain-of, ← d) h
 
 -- ---- over a copy of the samples that count
-shaped-window : (x w : List Float) (m o : ℕ) (before : m ≤ o) (r : Copy x w (o - m) (m + 60)) (s : Best) → s .lag ≤ m → shaped x m s ≡ shaped w o s
+shaped-window : (x w : List Float) (m o : ℕ) (before : m ≤ o) (r : Copy x w (o - m) (m + 60)) (s : Best) → s .lag ≤ m
+    → shaped x m s ≡ shaped w o s
 unfolding shaped
 shaped-window x w m o before r s h =
     rw (power-window x w m o 60 before r 0 (omega arith), power-window x w m o 60 before r (s .lag) h, cross-window x w m o 60 before r (s .lag) h)
 
-pub settings-window : (x w : List Float) (limit o l : ℕ) (before : limit + 3 ≤ o) (r : Copy x w (o - (limit + 3)) (limit + 3 + 60)) → 18 ≤ limit → settings limit x (limit + 3) l ≡ settings limit w o l
+pub settings-window : (x w : List Float) (limit o l : ℕ) (before : limit + 3 ≤ o) (r : Copy x w (o - (limit + 3)) (limit + 3 + 60))
+    → 18 ≤ limit → settings limit x (limit + 3) l ≡ settings limit w o l
 unfolding settings
 settings-window x w limit o l before r h =
     let m = limit + 3 in

@@ -40,11 +40,13 @@ unfolding behind
 behind-set n j delay v h = same-table 10 (λ i. at (set delay j v) (n + 9 - i)) (λ i. at delay (n + 9 - i)) (λ i l. getD-set-other delay j (n + 9 - i) v nan (λ q. omega arith))
 
 -- sample n stored
-pub behind-more : (n : ℕ) (delay : List Float) (v : Float) → n + 10 < length delay → behind (n + 1) (set delay (n + 10) v) ≡ later v (behind n delay)
+pub behind-more : (n : ℕ) (delay : List Float) (v : Float) → n + 10 < length delay
+    → behind (n + 1) (set delay (n + 10) v) ≡ later v (behind n delay)
 behind-more n delay v h = behind-next n (set delay (n + 10) v) ∙ rw (getD-set-same delay (n + 10) v nan h, behind-set n (n + 10) delay v (omega arith))
 
 -- ten places filled from the last value of a memory to its first
-pub behind-none : (memory delay : List Float) (k : ℕ) → length memory ≡ 10 → k ≡ 10 → Filled 70 (λ i. at memory (9 - i)) k delay → behind 0 delay ≡ memory
+pub behind-none : (memory delay : List Float) (k : ℕ) → length memory ≡ 10 → k ≡ 10
+    → Filled 70 (λ i. at memory (9 - i)) k delay → behind 0 delay ≡ memory
 unfolding behind
 behind-none memory delay k h e r = same-table 10 (λ i. at delay (9 - i)) (at memory) place ∙ table-entries 10 memory nan h
   where
@@ -67,7 +69,8 @@ pub record Laid (memory x : List Float) (n : ℕ) (delay : List Float) : Type 0 
 pub laid-none : (x delay : List Float) → length delay ≡ 70 → Laid (behind 0 delay) x 0 delay
 laid-none x delay h = record { most = zero-le; long = h; start = refl; rest = refl }
 
-pub laid-more : (memory x delay : List Float) (n : ℕ) → length x ≡ 60 → n < 60 → Laid memory x n delay → Laid memory x (n + 1) (set delay (n + 10) (at x n))
+pub laid-more : (memory x delay : List Float) (n : ℕ) → length x ≡ 60 → n < 60 → Laid memory x n delay
+    → Laid memory x (n + 1) (set delay (n + 10) (at x n))
 laid-more memory x delay n e h r =
     let a : n + 10 ≡ 10 + n = omega arith in
     let l : n < length (drop 10 delay) = simp length-drop (omega (arith, r .long)) in
@@ -79,7 +82,8 @@ laid-more memory x delay n e h r =
       rest = rw (a, drop-set-add 10 delay n (at x n), add-one, take-suc-set (drop 10 delay) n (at x n) l, r .rest, take-suc x n nan m);
     }
 
-pub laid-all : (memory x delay₀ delay : List Float) (n : ℕ) → length x ≡ 60 → 60 ≤ n → behind 0 delay₀ ≡ memory → Laid (behind 0 delay₀) x n delay → Delay memory x delay
+pub laid-all : (memory x delay₀ delay : List Float) (n : ℕ) → length x ≡ 60 → 60 ≤ n → behind 0 delay₀ ≡ memory
+    → Laid (behind 0 delay₀) x n delay → Delay memory x delay
 laid-all memory x delay₀ delay n e h g r =
     let d : n ≡ 60 = omega (arith, r .most) in
     let l : length (drop 10 delay) ≤ 60 = simp length-drop (omega (arith, r .long)) in

@@ -22,7 +22,8 @@ pub own-delay : {m x delay : List Float} → Delay m x delay → Delay (behind 0
 own-delay l = record { long = l .long; start = refl; rest = l .rest }
 
 -- after n samples the delay of inputs holds their memory
-pub inputs-behind : (x wz wp mx mf xs : List Float) → Delay mx x xs → (n : ℕ) → behind n xs ≡ filtered x wz wp mx mf n .inputs
+pub inputs-behind : (x wz wp mx mf xs : List Float) → Delay mx x xs → (n : ℕ)
+    → behind n xs ≡ filtered x wz wp mx mf n .inputs
 unfolding times sample
 inputs-behind x wz wp mx mf xs l zero = l .start
 inputs-behind x wz wp mx mf xs l (suc n) =
@@ -37,7 +38,8 @@ pub record Running (x wz wp mx mf : List Float) (n : ℕ) (fs out : List Float) 
   pub count : length (filtered x wz wp mx mf n .out) ≡ n
   pub rest : out ≡ filtered x wz wp mx mf n .out ++ drop n x
 
-pub running-none : (x wz wp mx fs out : List Float) → length fs ≡ 70 → out ≡ x → Running x wz wp mx (behind 0 fs) 0 fs out
+pub running-none : (x wz wp mx fs out : List Float) → length fs ≡ 70 → out ≡ x
+    → Running x wz wp mx (behind 0 fs) 0 fs out
 unfolding times
 running-none x wz wp mx fs out l e = record { bound = zero-le; long = l; outputs = refl; count = refl; rest = e }
 
@@ -49,7 +51,9 @@ module _ (x wz wp mx mf : List Float) (n : ℕ) (fs out : List Float) (long-x : 
   pub running-next : at out n ≡ at x n
   running-next = ap (λ (y : List Float). at y n) left-over ∙ getD-at (filtered x wz wp mx mf n .out) (at x n) (drop (suc n) x) nan n (r .count)
 
-  pub running-more : (xs : List Float) (v f : Float) → Delay mx x xs → v ≡ at out n → f ≡ weighted wz wp v (behind n xs) (behind n fs) → Running x wz wp mx mf (n + 1) (set fs (n + 10) f) (set out n f)
+  pub running-more : (xs : List Float) (v f : Float) → Delay mx x xs → v ≡ at out n
+      → f ≡ weighted wz wp v (behind n xs) (behind n fs)
+      → Running x wz wp mx mf (n + 1) (set fs (n + 10) f) (set out n f)
   unfolding sample
   running-more xs v f l e g =
       let s = filtered x wz wp mx mf n in
@@ -64,7 +68,10 @@ module _ (x wz wp mx mf : List Float) (n : ℕ) (fs out : List Float) (long-x : 
       }
 
 -- all sixty, from delays that start with the memories given
-pub running-all : (x wz wp mx mf xs fs₀ : List Float) (n : ℕ) (fs out rx rf : List Float) → length x ≡ 60 → Delay mx x xs → behind 0 fs₀ ≡ mf → 60 ≤ n → rx ≡ behind 60 xs → rf ≡ behind 60 fs → Running x wz wp (behind 0 xs) (behind 0 fs₀) n fs out → _≡_ {A = Weighted} (record { status = 0; out = out; «x_mem» = rx; «f_mem» = rf }) (done (filtered x wz wp mx mf 60))
+pub running-all : (x wz wp mx mf xs fs₀ : List Float) (n : ℕ) (fs out rx rf : List Float) → length x ≡ 60
+    → Delay mx x xs → behind 0 fs₀ ≡ mf → 60 ≤ n → rx ≡ behind 60 xs → rf ≡ behind 60 fs
+    → Running x wz wp (behind 0 xs) (behind 0 fs₀) n fs out
+    → _≡_ {A = Weighted} (record { status = 0; out = out; «x_mem» = rx; «f_mem» = rf }) (done (filtered x wz wp mx mf 60))
 running-all x wz wp mx mf xs fs₀ n fs out rx rf z l o h p q r =
     let e : n ≡ 60 = omega (arith, r .bound) in
     let s = filtered x wz wp (behind 0 xs) (behind 0 fs₀) 60 in

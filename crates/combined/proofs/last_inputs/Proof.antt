@@ -17,7 +17,8 @@ Inv-loop p p-hist₀ i₀ p-hist i = Filled reach (λ j. at p (j + 60)) i p-hist
 abbrev μ-loop : tie.MeasureT-loop
 μ-loop p p-hist₀ i₀ p-hist i = reach - i
 
-copied : (p out : List Float) (i : ℕ) → length p ≡ reach + 60 → reach ≤ i → Filled reach (λ k. at p (k + 60)) i out → out ≡ drop 60 p
+copied : (p out : List Float) (i : ℕ) → length p ≡ reach + 60 → reach ≤ i → Filled reach (λ k. at p (k + 60)) i out
+    → out ≡ drop 60 p
 copied p out i h l r = filled-all reach (λ k. at p (k + 60)) i out l r ∙ table-drop 60 reach p nan h
 
 pub last-inputs-spec : {M : Type 1} → statement M

@@ -18,7 +18,8 @@ Inv-loop p-hist p₀ i₀ p i = (i ≤ reach) × Filled (reach + 60) (at p-hist)
 abbrev μ-loop : tie.MeasureT-loop
 μ-loop p-hist p₀ i₀ p i = reach - i
 
-copied : (p-hist p : List Float) (i : ℕ) → length p-hist ≡ reach → i ≤ reach → reach ≤ i → Filled (reach + 60) (at p-hist) i p → take reach p ≡ p-hist
+copied : (p-hist p : List Float) (i : ℕ) → length p-hist ≡ reach → i ≤ reach → reach ≤ i
+    → Filled (reach + 60) (at p-hist) i p → take reach p ≡ p-hist
 copied p-hist p i h l m r =
     let e : i ≡ reach = omega arith in
     rw e at (r .done) ∙ table-entries reach p-hist nan h

@@ -21,7 +21,8 @@ abbrev μ-loop : tie.MeasureT-loop
 μ-loop x n aq syn s₀ k₀ s k = 10 - k
 
 -- one turn: the delay's value is that of the memory
-turn : (n : ℕ) (aq syn : List Float) (x : Float) (k : ℕ) (s t : Float) → k < 10 → t ≡ s ⊖ at aq (k + 1) ⊗ at syn (n + 9 - k)
+turn : (n : ℕ) (aq syn : List Float) (x : Float) (k : ℕ) (s t : Float) → k < 10
+    → t ≡ s ⊖ at aq (k + 1) ⊗ at syn (n + 9 - k)
     → Went 0 10 (takeTap aq (behind n syn)) x k s → Went 0 10 (takeTap aq (behind n syn)) x (k + 1) t
 unfolding takeTap
 turn n aq syn x k s t h e r = went-more 0 10 _ _ k s t h (e ∙ rw (add-one, at-behind n syn k h)) r

@@ -19,7 +19,8 @@ delta : ofBits binary32 1065353216 ∷ replicate 59 (ofBits binary32 0) ≡ impu
 unfolding single round ofBits
 delta = refl
 
-rested : (q : Settings) (mem : CombinedMem) (r : Combined) → mem ≡ atRest → r ≡ runCombined q (ofBits binary32 1065353216 ∷ replicate 59 (ofBits binary32 0)) mem
+rested : (q : Settings) (mem : CombinedMem) (r : Combined) → mem ≡ atRest
+    → r ≡ runCombined q (ofBits binary32 1065353216 ∷ replicate 59 (ofBits binary32 0)) mem
     → answered r ≡ impulseResponse q
 unfolding impulseResponse
 rested q mem r e f =

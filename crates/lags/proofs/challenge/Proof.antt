@@ -20,12 +20,14 @@ module _ (best : Best) (j : ℕ) (c : Float) (r : Best) (b : Bool) (counted : no
   unfolding challenged preferred
   near h l e = rw (counted, lt-ltb j (best .lag + 18) h, l) e
 
-  far : best .lag + 18 ≤ j → lt (best .ratio ⊠ double 1333521432163324 1000000000000000) c ≡ b → r ≡ cond b (won j c) best
+  far : best .lag + 18 ≤ j → lt (best .ratio ⊠ double 1333521432163324 1000000000000000) c ≡ b
+      → r ≡ cond b (won j c) best
       → r ≡ challenged preferred best j c
   unfolding challenged preferred
   far h l e = rw (counted, le-ltb j (best .lag + 18) h, l) e
 
-first : (best : Best) (j : ℕ) (c : Float) (r : Best) → not (best .found) ≡ true → r ≡ won j c → r ≡ challenged preferred best j c
+first : (best : Best) (j : ℕ) (c : Float) (r : Best) → not (best .found) ≡ true → r ≡ won j c
+    → r ≡ challenged preferred best j c
 unfolding challenged
 first best j c r h e = rw h e
 

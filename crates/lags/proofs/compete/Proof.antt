@@ -23,16 +23,19 @@ abbrev μ-loop : tie.MeasureT-loop
 μ-loop first from to sums b₀ lag₀ b lag = to - lag
 
 -- a lag whose sums are both positive competes
-competes : (x y t : Best) (j : ℕ) (num den : Float) → lt (double 0 1) num ≡ true → lt (double 0 1) den ≡ true → t ≡ challenged preferred x j (ratioOf num den) → y ≡ t → y ≡ offered preferred x j num den
+competes : (x y t : Best) (j : ℕ) (num den : Float) → lt (double 0 1) num ≡ true → lt (double 0 1) den ≡ true
+    → t ≡ challenged preferred x j (ratioOf num den) → y ≡ t → y ≡ offered preferred x j num den
 unfolding offered
 competes x y t j num den p q e f = rw (p, q) (f ∙ e)
 
 -- any other one changes nothing
-no-power : (x y : Best) (j : ℕ) (num den : Float) → lt (double 0 1) num ≡ true → lt (double 0 1) den ≡ false → y ≡ x → y ≡ offered preferred x j num den
+no-power : (x y : Best) (j : ℕ) (num den : Float) → lt (double 0 1) num ≡ true → lt (double 0 1) den ≡ false → y ≡ x
+    → y ≡ offered preferred x j num den
 unfolding offered
 no-power x y j num den p q f = rw (p, q) f
 
-no-cross : (x y : Best) (j : ℕ) (num den : Float) → lt (double 0 1) num ≡ false → y ≡ x → y ≡ offered preferred x j num den
+no-cross : (x y : Best) (j : ℕ) (num den : Float) → lt (double 0 1) num ≡ false → y ≡ x
+    → y ≡ offered preferred x j num den
 unfolding offered
 no-cross x y j num den p f = rw p f
 

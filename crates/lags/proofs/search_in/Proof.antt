@@ -26,7 +26,8 @@ abbrev μ-loop : tie.MeasureT-loop
 μ-loop x squares limit best₀ lag₀ best lag = limit + 8 - lag
 
 -- before the first lag
-start : (step : ℕ → Best → Best) (s₀ : Best) (limit : ℕ) → 22 ≤ limit → Went 18 (suc limit) step s₀ (min 18 (suc limit)) s₀
+start : (step : ℕ → Best → Best) (s₀ : Best) (limit : ℕ) → 22 ≤ limit
+    → Went 18 (suc limit) step s₀ (min 18 (suc limit)) s₀
 start step s₀ limit h =
     let e : min 18 (suc limit) ≡ 18 = omega arith in
     rw e (went-none 18 (suc limit) step s₀ (omega arith))
@@ -44,7 +45,8 @@ eight-more x q limit lag first to sums best next pre inside f t own n w =
     turn (offer preferred x (limit + 3) 120) nothing limit lag to best next inside t (n ∙ offered-each) w
 
 -- after the last
-end : (step : ℕ → Best → Best) (s₀ : Best) (limit lag : ℕ) (b : Best) → limit < lag → Went 18 (suc limit) step s₀ (min lag (suc limit)) b → b ≡ over 18 (suc limit) step s₀
+end : (step : ℕ → Best → Best) (s₀ : Best) (limit lag : ℕ) (b : Best) → limit < lag
+    → Went 18 (suc limit) step s₀ (min lag (suc limit)) b → b ≡ over 18 (suc limit) step s₀
 end step s₀ limit lag b h r = went-all 18 (suc limit) step s₀ (min lag (suc limit)) b (omega arith) r
 
 pub search-in-spec : {M : Type 1} → statement M

@@ -28,7 +28,8 @@ module _ (w : List Float) (place l : ℕ) (shown : Subframe 142 w place l) where
       let n : place + 60 - (place - 145) ≡ 205 = omega arith in
       rw n (passes _ (shown .fine))
 
-  same-settings : (x rest : List Float) (s : HnsParams) → x ≡ part ++ rest → s ≡ settings 142 x 145 l → s ≡ settings 142 w place l
+  same-settings : (x rest : List Float) (s : HnsParams) → x ≡ part ++ rest → s ≡ settings 142 x 145 l
+      → s ≡ settings 142 w place l
   same-settings x rest s e t =
       let r : Copy x w (place - 145) 205 = copied x w (place - 145) 205 (place + 60) (omega arith) (shown .long) (begins x part rest e) in
       t ∙ settings-window x w 142 place l (shown .early) r (omega arith)

@@ -35,13 +35,17 @@ shaping-in-spec =
     -- returns
     (λ c.
     let searched = c .before .before .before in
-    none-won _ _ _ _ _ _ _ (searched .before .before .before .before .pre) (searched .before .before .eight-lags .ensures) (searched .before .greater-of .ensures) (searched .compete .ensures) (search) _ (c .off .ensures))
+    let summed = searched .before .before in
+    none-won _ _ _ _ _ _ _ (summed .before .before .pre) (summed .eight-lags .ensures) (searched .before .greater-of .ensures) (searched .compete .ensures)
+    (search) _ (c .off .ensures))
     -- add-i
     (λ c. search needs)
     -- sub-i
     (λ c.
     let searched = c .before .before in
-    placed _ _ _ _ _ _ _ (searched .before .before .before .before .pre) (searched .before .before .eight-lags .ensures) (searched .before .greater-of .ensures) (searched .compete .ensures) (search) .0)
+    let summed = searched .before .before in
+    placed _ _ _ _ _ _ _ (summed .before .before .pre) (summed .eight-lags .ensures) (searched .before .greater-of .ensures) (searched .compete .ensures)
+    (search) .0)
     -- cast-i
     (λ c. search needs)
     -- mul-settle
@@ -49,16 +53,22 @@ shaping-in-spec =
     -- element-copy-out-settle
     (λ c.
     let searched = c .before .before in
-    placed _ _ _ _ _ _ _ (searched .before .before .before .before .pre) (searched .before .before .eight-lags .ensures) (searched .before .greater-of .ensures) (searched .compete .ensures) (search) .1)
+    let summed = searched .before .before in
+    placed _ _ _ _ _ _ _ (summed .before .before .pre) (summed .eight-lags .ensures) (searched .before .greater-of .ensures) (searched .compete .ensures)
+    (search) .1)
     -- mul-settle-2
     (λ c. search needs)
     -- element-copy-out-settle-2
     (λ c.
     let searched = c .before .before .before in
-    placed _ _ _ _ _ _ _ (searched .before .before .before .before .pre) (searched .before .before .eight-lags .ensures) (searched .before .greater-of .ensures) (searched .compete .ensures) (search) .1)
+    let summed = searched .before .before in
+    placed _ _ _ _ _ _ _ (summed .before .before .pre) (summed .eight-lags .ensures) (searched .before .greater-of .ensures) (searched .compete .ensures)
+    (search) .1)
     -- settle-requires
     (λ c κs. search needs)
     -- returns-2
     (λ c.
     let searched = c .before .before .before .before .before in
-    one-won _ _ _ _ _ _ _ (searched .before .before .before .before .pre) (searched .before .before .eight-lags .ensures) (searched .before .greater-of .ensures) (searched .compete .ensures) (search) _ _ (searched .before .before .before .energy .ensures) (c .settle .ensures)))
+    let summed = searched .before .before in
+    one-won _ _ _ _ _ _ _ (summed .before .before .pre) (summed .eight-lags .ensures) (searched .before .greater-of .ensures) (searched .compete .ensures)
+    (search) _ _ (summed .before .energy .ensures) (c .settle .ensures)))

@@ -26,7 +26,8 @@ abbrev μ-loop : tie.MeasureT-loop
 μ-loop a entries out₀ k₀ out k = 10 - k
 
 -- one tap as the code works it out
-turn : (a : List Float) (entries : List ℤ) (k : ℕ) (out : List Float) (z : ℤ) → k < 10 → z ≡ getD entries k (pos 0) → Tapped a entries k out
+turn : (a : List Float) (entries : List ℤ) (k : ℕ) (out : List Float) (z : ℤ) → k < 10 → z ≡ getD entries k (pos 0)
+    → Tapped a entries k out
     → Tapped a entries (k + 1) (set out k (at a (k + 1) ⊗ (ofInt binary32 z ⊘ ofBits binary32 1191182336)))
 unfolding single round ofBits
 turn a entries k out z h e r = filled-more 10 _ k out _ h (rw (add-one, e)) r
