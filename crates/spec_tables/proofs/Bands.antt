@@ -3,7 +3,7 @@
 use mathlib.Core.Path.{_≡_}
 use Prim.Native.Nat.{ℕ, _+_, _*_, _≤_, _<_}
 use native.Mathlib.Omega.{arith}
-use lib.Dec.{lit≤, lit<}
+use lib.Dec.{lit≤}
 use mir.Syntax.{w64}
 use mir.Val.{Fits}
 use Rattle.spec_tables.specs.declared.BandPlace.{BandPlace}
@@ -22,10 +22,10 @@ row-fits Band1 index h = omega arith
 row-fits Band2 index h = omega arith
 
 -- ---- the same of a place that the code has been given
-pub first-fits : (b : LspBand) {p : BandPlace} → p ≡ placeOf b → Fits w64 (256 * p .start)
-first-fits Band0 e = rw e (record { fits = lit< tt })
-first-fits Band1 e = rw e (record { fits = lit< tt })
-first-fits Band2 e = rw e (record { fits = lit< tt })
+pub first-fits : (b : LspBand) {p : BandPlace} {k : ℕ} → p ≡ placeOf b → k ≤ 256 → Fits w64 (k * p .start)
+first-fits Band0 e h = rw e (record { fits = omega arith })
+first-fits Band1 e h = rw e (record { fits = omega arith })
+first-fits Band2 e h = rw e (record { fits = omega arith })
 
 pub index-fits : (b : LspBand) {p : BandPlace} {index : ℕ} → p ≡ placeOf b → index < 256 → Fits w64 (index * p .length)
 index-fits b {index = index} e h = rw e (record { fits = omega (arith, row-fits b index h) })

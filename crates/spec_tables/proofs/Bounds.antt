@@ -12,7 +12,7 @@ use mir.Facts.{and-yes, yes-and}
 use Rattle.spec_tables.specs.declared.LspBand.{LspBand}
 use Rattle.spec_tables.specs.Band.{placeOf}
 use Rattle.spec_tables.specs.Codebook.{neg}
-use Rattle.spec_tables.specs.Bounds.{Inside, inside, allInside, rowsPass}
+use Rattle.spec_tables.specs.Bounds.{Inside, inside, allInside, rowBound, rowsPass}
 use Rattle.spec_tables.specs.Rows.{rowFrom, row}
 
 module _ (low high : ℤ) where
@@ -52,18 +52,18 @@ module _ (low high : ℤ) where
   unfolding rowFrom
   row-in rows width place t = take-in width (drop place rows) (drop-in place rows t)
 
--- rows that pass have no number outside −8,192..8,192, in any band
+-- rows that pass have no number of greater magnitude than the bound, in any band
 pub row-passes : (rows : List ℤ) → T (rowsPass rows) → (band : LspBand) (index : ℕ) → T (rowsPass (row rows band index))
 unfolding rowsPass
-row-passes rows t band index = row-in (neg 8192) (pos 8192) rows (placeOf band .length) _ t
+row-passes rows t band index = row-in (neg rowBound) (pos rowBound) rows (placeOf band .length) _ t
 
 pub join-passes : (zs ws : List ℤ) → T (rowsPass zs) → T (rowsPass ws) → T (rowsPass (zs ++ ws))
 unfolding rowsPass
-join-passes = join-in (neg 8192) (pos 8192)
+join-passes = join-in (neg rowBound) (pos rowBound)
 
-pub pass-inside : (zs : List ℤ) → T (rowsPass zs) → (j : ℕ) → Inside (neg 8192) (pos 8192) (getD zs j (pos 0))
+pub pass-inside : (zs : List ℤ) → T (rowsPass zs) → (j : ℕ) → Inside (neg rowBound) (pos rowBound) (getD zs j (pos 0))
 unfolding rowsPass
-pass-inside = list-at (neg 8192) (pos 8192) (record { least = leZ-yes tt; most = leZ-yes tt })
+pass-inside = list-at (neg rowBound) (pos rowBound) (record { least = leZ-yes tt; most = leZ-yes tt })
 
 -- bounds that are each other's opposites, as a bound of the magnitude
 pub magnitude : (d : ℕ) (z : ℤ) → Inside (neg d) (pos d) z → natAbs z ≤ d

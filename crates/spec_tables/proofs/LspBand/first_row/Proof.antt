@@ -15,6 +15,6 @@ first-row-spec =
     -- start-and-length-requires
     (λ c κs. search needs)
     -- mul-result
-    (λ c. search first-fits)
+    (λ c. search (first-fits, needs))
     -- returns
     (λ c. ap (λ (p : BandPlace). 256 * p .start) (c .before .start-and-length .ensures)))
