@@ -249,7 +249,7 @@ function read_item(name, block, text,  at, names, list, count, i, what, it) {
     sub(/[,;].*$/, "", what)
     if (block == "Takes:" && !(what in known))
         fail(began, "g7231_" name ": no harness can make `" what "`: take another word (doors/make roles), or add " \
-             "this one to `enum role` in doors/door.h, with its maker in guard/inputs.c")
+             "this one to `enum role` in doors/door.h and its makers to guard/inputs.c and oracle/src/makers.rs")
     count = split(names, list, / *, */)
     for (i = 1; i <= count; i++) {
         it = list[i]

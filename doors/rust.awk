@@ -1,6 +1,6 @@
 # Rust's declarations of the doors, both forms, and of the header's constants and structs.
 
-BEGIN { print "// Made from include/g7231.h by doors/make rust.\n" }
+BEGIN { print "// Made from include/g7231.h by doors/make rust. For Rust 1.82 or later.\n" }
 
 $1 == "version" { print "#[allow(dead_code)]\npub const G7231_VERSION: &str = \"" $2 "\";" }
 $1 == "constant" { printf "/// %s\n#[allow(dead_code)]\npub const %s: usize = %d;\n", $4, $2, $3 }
