@@ -1,5 +1,6 @@
 -- `combined::run` meets its contract: after n turns the delays are those of n samples, synthesis one ahead. Assumes nothing.
 use borrow.Author.Needs.{needs}
+use native.Mathlib.Omega.{arith}
 use mathlib.Core.Path.{refl}
 use Prim.Native.Nat.{_-_}
 use lib.ListN.{drop}
@@ -86,8 +87,8 @@ run-spec =
     -- loop-again
     (λ c.
     let weighed = c .before .before .before in
-    let turned = weighed .before .before .before .before .before in
-    cascaded-more _ _ _ _ _ _ _ (turned .before .loop .inv) _ _ refl (weighed .weight-sample .ensures) (turned .loop-test .taken) _ _ refl (c .synthesise-sample2 .ensures))
+    let turned = weighed .before .before .before .before .before .before in
+    cascaded-more _ _ _ _ _ _ _ (turned .loop .inv) _ _ refl (weighed .weight-sample .ensures) (omega arith) _ _ refl (c .synthesise-sample2 .ensures))
     -- array-read-s-2
     (λ c. search needs)
     -- weight-sample-requires-2

@@ -2,6 +2,7 @@
 use borrow.Author.Needs.{needs}
 use mathlib.Core.Path.{refl}
 use Prim.Native.Nat.{_-_}
+use native.Mathlib.Omega.{arith}
 use Rattle.weighting.specs.speed.Delay.{behind}
 use Rattle.weighting.proofs.Running.{own-delay, Running, running-none, running-more, running-all}
 use Rattle.weighting.proofs.weight_all.Statement.{statement}
@@ -52,7 +53,7 @@ weight-all-spec =
     (λ c.
     let turned = c .before .before .before .before .before .before in
     let inputs = own-delay (turned .before .before .before .delayed .ensures) in
-    running-more _ _ _ _ _ _ _ _ (search) (search) (turned .loop .inv) _ _ _ inputs refl (c .weight-sample .ensures))
+    running-more _ _ _ _ _ _ _ _ (search) (omega arith) (turned .loop .inv) _ _ _ inputs refl (c .weight-sample .ensures))
     -- last-ten-requires
     (λ c κs. search needs)
     -- last-ten-requires-2
