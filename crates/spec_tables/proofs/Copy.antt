@@ -9,6 +9,9 @@ use native.Mathlib.Omega.{arith}
 use lib.IntN.{ℤ, pos}
 use lib.ListN.{length, take, drop, set, getD, replicate, length-set, length-drop}
 use lib.Seq.{set-at, take-suc, getD-drop, append-snoc, length-take-le}
+use mir.Facts.{toZ-ofZ}
+use mir.Syntax.{w16}
+use mir.Val.{SFits, toZ, ofZ}
 use Rattle.spec_tables.specs.Rows.{rowFrom, padded}
 
 pub record Copied (rows : List ℤ) (at width j : ℕ) (out : List ℤ) : Type 0 where
@@ -23,18 +26,18 @@ long : (rows : List ℤ) (at j : ℕ) → at + j ≤ length rows → length (tak
 long rows at j h = length-take-le j (drop at rows) (simp length-drop (omega arith))
 
 module _ {rows : List ℤ} {at width : ℕ} (fits : at + width ≤ length rows) (four : width ≤ 4) where
-  -- the number at place j
-  pub more : {j : ℕ} {out : List ℤ} {z : ℤ} → j < width → z ≡ getD rows (at + j) (pos 0) → Copied rows at width j out →
-      Copied rows at width (j + 1) (set out j z)
-  more {j} {out} {z} h e c = record {
+  -- the number at place j: what the code reads of its sixteen bits is the number
+  pub more : {j : ℕ} {out : List ℤ} → j < width → SFits w16 (getD rows (at + j) (pos 0)) → Copied rows at width j out →
+      Copied rows at width (j + 1) (set out j (toZ w16 (ofZ w16 (getD rows (at + j) (pos 0)))))
+  more {j} {out} h e c = record {
     most = omega arith;
-    size = length-set out j z ∙ c .size;
+    size = length-set out j _ ∙ c .size;
     copied =
         let s : 4 - j ≡ suc (4 - suc j) = omega arith in
         let l : length (take j (drop at rows)) ≡ j = long rows at j (omega arith) in
         let d : j < length (drop at rows) = simp length-drop (omega arith) in
         rw (
-          e,
+          toZ-ofZ e,
           add-one j,
           c .copied,
           s,

@@ -10,6 +10,7 @@ use lib.ListN.{length, getD}
 use lib.Ieee.{Float, fin, binary32, add, sub, ofInt, ofBits}
 use mir.Facts.{toZ-ofZ}
 use mir.Syntax.{w16}
+use mir.Val.{SFits, toZ, ofZ}
 use Rattle.float.specs.Vector.{at}
 use Rattle.float.proofs.Loop.{Went, went-none, went-more, went-all}
 use Rattle.spec_tables.specs.Rows.{rowFrom}
@@ -35,19 +36,20 @@ none : {rows : List ℤ} {place width start : ℕ} {target weights : List Float}
 unfolding ofBits
 none {width = width} = record { went = went-none 0 width _ (fin false 0 (pos 0)) zero-le }
 
-module _ {rows : List ℤ} {place width start : ℕ} {target weights : List Float} {j : ℕ} {error : Float} where
-  -- one number more: the code's number is the row's
-  turn : {z : ℤ} → j < width → z ≡ getD rows (place + j) (pos 0) → Summed rows place width target weights start j error →
-      Summed rows place width target weights start (j + 1)
-      (add binary32 error (squared (at weights (start + j)) (sub binary32 (at target (start + j)) (ofInt binary32 z))))
-  unfolding term
-  turn h e r = record { went = went-more 0 width _ _ j error _ h (rw (e, from-at rows width place j h)) (r .went) }
+-- one number more: what the code reads of its sixteen bits is the row's number
+turn : (rows : List ℤ) (place width start : ℕ) (target weights : List Float) (j : ℕ) (error : Float) → j < width →
+    SFits w16 (getD rows (place + j) (pos 0)) → Summed rows place width target weights start j error →
+    let d = sub binary32 (at target (start + j)) (ofInt binary32 (toZ w16 (ofZ w16 (getD rows (place + j) (pos 0))))) in
+    Summed rows place width target weights start (j + 1) (add binary32 error (squared (at weights (start + j)) d))
+unfolding term
+turn rows place width start target weights j error h e r =
+    record { went = went-more 0 width _ _ j error _ h (rw (toZ-ofZ e, from-at rows width place j h)) (r .went) }
 
-  -- all of them
-  done : place + width ≤ length rows → width ≤ j → Summed rows place width target weights start j error →
-      error ≡ rowError target weights start (rowFrom rows width place)
-  unfolding rowError
-  done f h r = rw (from-length rows width place f) (went-all 0 width _ _ j error h (r .went))
+-- all of them
+done : (rows : List ℤ) (place width start : ℕ) (target weights : List Float) (j : ℕ) (error : Float) → place + width ≤ length rows → width ≤ j →
+    Summed rows place width target weights start j error → error ≡ rowError target weights start (rowFrom rows width place)
+unfolding rowError
+done rows place width start target weights j error f h r = rw (from-length rows width place f) (went-all 0 width _ _ j error h (r .went))
 
 pub row-error-spec : {M : Type 1} → statement M
 unfolding squared
@@ -83,6 +85,6 @@ row-error-spec =
     -- loop-less
     (λ c. search needs)
     -- loop-again
-    (λ c. turn (search needs) (toZ-ofZ {w = w16} (record { sfits = c .before .before .d .given })) (search needs))
+    (λ c. search (turn, needs))
     -- returns
-    (λ c. done (search needs) (search needs) (c .before .loop .inv)))
+    (λ c. search (done, needs)))

@@ -2,8 +2,6 @@
 -- Assumes nothing.
 use Prim.Native.Nat.{_-_}
 use borrow.Author.Needs.{needs}
-use mir.Facts.{toZ-ofZ}
-use mir.Syntax.{w16}
 use Rattle.spec_tables.proofs.Copy.{Copied, none, more, all}
 use Rattle.spec_tables.proofs.copied.Statement.{statement}
 use Rattle.spec_tables.proofs.copied.Tie as tie
@@ -37,6 +35,6 @@ copied-spec =
     -- loop-less
     (λ c. search needs)
     -- loop-again
-    (λ c. more (search needs) (search needs) (search needs) (toZ-ofZ {w = w16} (record { sfits = c .out .given })) (c .before .before .loop .inv))
+    (λ c. search (more, needs))
     -- returns
-    (λ c. all (search needs) (search needs) (search needs) (c .before .loop .inv)))
+    (λ c. search (all, needs)))
