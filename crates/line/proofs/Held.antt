@@ -1,10 +1,10 @@
 -- A set that the line holds: ten values, each finite and within 16,384 of its resting one. The resting set is one; the decoder makes one of one, with any rows whose
 -- numbers are small; neither end refuses one. Two that are decoded alike come closer. Assumes nothing.
 use mathlib.Core.Path.{_≡_, refl, sym, ap, _∙_, subst}
-use mathlib.Core.Bool.{Bool, true, false, not, _&&_, cond}
+use mathlib.Core.Bool.{Bool, true, false, not}
 use mathlib.Core.Logic.{_⊎_, inl, inr}
 use mathlib.Core.List.{List}
-use Prim.Native.Nat.{ℕ, zero, suc, _+_, _-_, _*_, _^_, _≤_, _<_, zero-le}
+use Prim.Native.Nat.{ℕ, suc, _+_, _*_, _^_, _≤_, _<_, zero-le}
 use native.Mathlib.Nat.{le-refl, le-trans, le-of-eq, lt-of-le-of-lt, mul-le-mul-right}
 use native.Mathlib.Omega.{arith}
 use lib.Dec.{T, lit<}
@@ -18,7 +18,6 @@ use Rattle.float.specs.Difference.{plus, less, difference}
 use Rattle.float.specs.Finite.{power, exceeds, anyExceeds}
 use Rattle.float.specs.Refusal.{all}
 use Rattle.float.specs.Single.{single}
-use Rattle.float.specs.Table.{table}
 use Rattle.float.specs.Vector.{at}
 use Rattle.float.proofs.Near.{Good, one-side}
 use Rattle.float.proofs.Table.{length-table, at-table}
@@ -32,7 +31,7 @@ use Rattle.row_search.specs.Error.{number}
 use Rattle.spec_lsp.specs.Decode.{rebuilt, rowNumbers, decoded}
 use Rattle.spec_lsp.specs.Resting.{resting}
 use Rattle.line.specs.Claim.{Near, Ten}
-use Rattle.line.proofs.Drift.{apart-above, apart-below, apart-most, between, below-limit}
+use Rattle.line.proofs.Drift.{apart-most, between, below-limit}
 use Rattle.line.proofs.Each.{all-each, is-true}
 use Rattle.line.proofs.Rebuild as rebuild
 use Rattle.line.proofs.Rebuild.{Inside, Resting, Small}

@@ -2,7 +2,7 @@
 -- does. C is any number here. Assumes nothing.
 use mathlib.Core.Path.{_≡_, sym, ap, _∙_, subst}
 use Prim.Native.Nat.{ℕ, zero, suc, _+_, _-_, _*_, _^_, _≤_, _<_}
-use native.Mathlib.Nat.{le-refl, le-trans, le-of-eq, mul-assoc, mul-comm, mul-left-comm, mul-add, one-mul, mul-le-mul-left, mul-le-mul-right, le-of-mul-le-mul-left, pow-succ', add-zero}
+use native.Mathlib.Nat.{le-trans, le-of-eq, mul-assoc, mul-left-comm, mul-add, mul-le-mul-left, mul-le-mul-right, le-of-mul-le-mul-left, pow-succ'}
 use native.Mathlib.Omega.{arith}
 use lib.Dec.{lit≤, lit<}
 

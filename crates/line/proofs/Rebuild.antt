@@ -1,13 +1,11 @@
 -- One decoding of a frequency in singles: from a finite value within 16,384 of the resting one, and a row's number within 8,192, it makes a finite value
 -- within 16,384 again, and two values that start apart come closer. Assumes nothing.
-use mathlib.Core.Path.{_≡_, refl, sym, ap, _∙_, subst}
+use mathlib.Core.Path.{_≡_, sym, subst}
 use mathlib.Core.Bool.{false}
-use Prim.Native.Nat.{ℕ, zero, suc, _+_, _-_, _*_, _^_, _≤_, _<_}
+use Prim.Native.Nat.{ℕ, _+_, _-_, _*_, _^_, _≤_, _<_}
 use native.Mathlib.Nat.{zero-lt-suc}
-use native.Mathlib.Omega.{arith}
 use lib.Dec.{lit≤}
-use lib.Pow.{pow-pos}
-use lib.Ieee.{Float, binary32, add, sub, mul}
+use lib.Ieee.{Float, binary32}
 use lib.Ieee.Exact.{HasValue}
 use Rattle.float.specs.Difference.{plus, less, difference}
 use Rattle.float.specs.Single.{_⊕_, _⊖_, _⊗_, single}

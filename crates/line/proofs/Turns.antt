@@ -1,20 +1,19 @@
 -- A turn of the line between a coder with any rows and any choice of an index, and the decoder with the same rows: both ends go on holding sets, and no set is refused.
 -- Then runs of turns: equal ends stay equal while no index is lost, and other ends come closer with each arrival. Assumes nothing.
 use mathlib.Core.Path.{_≡_, refl, sym, ap, _∙_, subst}
-use mathlib.Core.Logic.{_⊎_, inl, inr}
 use mathlib.Core.Bool.{Bool, true, false, not, _&&_, cond}
 use mathlib.Core.List.{List, [], _∷_}
-use Prim.Native.Nat.{ℕ, zero, suc, _+_, _*_, _^_, _≤_, _<_}
-use native.Mathlib.Nat.{le-refl, le-trans}
+use Prim.Native.Nat.{ℕ, suc, _+_, _*_, _^_, _≤_, _<_}
+use native.Mathlib.Nat.{le-refl}
 use native.Mathlib.Omega.{arith}
-use lib.Dec.{T, eqb, eqb→eq}
+use lib.Dec.{T, eqb→eq}
 use lib.IntN.{ℤ}
 use lib.Ieee.{Float}
 use Rattle.float.specs.Difference.{difference}
 use Rattle.float.specs.Vector.{at}
 use Rattle.spec_tables.specs.Bounds.{rowsPass}
 use Rattle.spec_lsp.specs.Decode.{decoded, decodeLspFreq}
-use Rattle.spec_lsp.specs.Quantise.{quantisedAs, quantiseBy}
+use Rattle.spec_lsp.specs.Quantise.{quantiseBy}
 use Rattle.spec_lsp.proofs.Refusals.{decode-done, quantised-set}
 use Rattle.line.specs.declared.Turn.{Turn}
 use Rattle.line.specs.declared.Ends.{Ends}

@@ -1,12 +1,11 @@
 -- The invariant of a search through rows one after the other, with its laws: after n rows the smallest error and its index are those of the first n, and the
 -- next row stands n widths further on. Rows are taken one at a time or four at a time; four are one taken four times. Assumes nothing.
 use mathlib.Core.Path.{_≡_, refl, sym, ap, _∙_}
-use mathlib.Core.Bool.{false}
 use Prim.Native.Nat.{ℕ, _+_, _*_, _≤_, zero-le}
 use native.Mathlib.Nat.{add-mul, add-zero, zero-mul, mul-le-mul-right}
 use native.Mathlib.Numerals.{add-one}
 use native.Mathlib.Omega.{arith}
-use lib.Ieee.{Float, inf, binary32, div, ofBits}
+use lib.Ieee.{Float, binary32, div, ofBits}
 use Rattle.row_search.specs.Search.{better, among, best}
 use Rattle.row_search.specs.speed.Four.{fourRows}
 

@@ -1,13 +1,12 @@
 -- What the test of a list gives at every place of every row, whatever the rows' place and width: a part of a list that passes does too, and so do two
 -- that pass when they are joined. A place past the end reads 0, so 0 must lie inside too.
 -- Assumes nothing.
-use mathlib.Core.Path.{_≡_}
 use mathlib.Core.List.{List, [], _∷_, _++_}
-use Prim.Native.Nat.{ℕ, zero, suc, _+_, _*_, _≤_, suc-le-suc}
+use Prim.Native.Nat.{ℕ, zero, suc, _≤_, suc-le-suc}
 use lib.Dec.{T, leb→le}
 use lib.IntN.{ℤ, pos, negsuc, natAbs}
 use lib.ListN.{getD, take, drop}
-use lib.Signed.{_≤ℤ_, leZ, leZ-yes}
+use lib.Signed.{leZ, leZ-yes}
 use mir.Facts.{and-yes, yes-and}
 use Rattle.spec_tables.specs.declared.LspBand.{LspBand}
 use Rattle.spec_tables.specs.Band.{placeOf}

@@ -3,13 +3,13 @@
 -- Assumes nothing.
 use mathlib.Core.Path.{_≡_, refl, _∙_}
 use mathlib.Core.List.{List, [], _∷_, _++_}
-use Prim.Native.Nat.{ℕ, zero, suc, _+_, _-_, _*_, _≤_, _<_}
+use Prim.Native.Nat.{ℕ, zero, suc, _+_, _-_, _≤_, _<_}
 use native.Mathlib.Omega.{arith}
 use lib.IntN.{ℤ, pos}
 use lib.ListN.{length, take, drop, getD, replicate, length-drop}
 use lib.Seq.{getD-take, getD-drop, take-at, length-take-le}
 use Rattle.spec_tables.specs.declared.LspBand.{LspBand}
-use Rattle.spec_tables.specs.Band.{placeOf, firstRow}
+use Rattle.spec_tables.specs.Band.{placeOf}
 use Rattle.spec_tables.specs.Rows.{rowFrom, row, padded}
 use Rattle.spec_tables.proofs.Bands.{row-fits}
 
