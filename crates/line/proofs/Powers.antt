@@ -11,7 +11,8 @@ pub none : (d D C : ℕ) → d ≤ D → 8 ^ 0 * d + 3 ^ 0 * C ≤ 3 ^ 0 * D + 8
 none d D C h = omega arith
 
 -- an arrival, and then n more
-pub more : (n d e D C : ℕ) → 8 * e + 3 * C ≤ 3 * D + 8 * C → 8 ^ n * d + 3 ^ n * C ≤ 3 ^ n * e + 8 ^ n * C → 8 ^ suc n * d + 3 ^ suc n * C ≤ 3 ^ suc n * D + 8 ^ suc n * C
+pub more : (n d e D C : ℕ) → 8 * e + 3 * C ≤ 3 * D + 8 * C → 8 ^ n * d + 3 ^ n * C ≤ 3 ^ n * e + 8 ^ n * C →
+    8 ^ suc n * d + 3 ^ suc n * C ≤ 3 ^ suc n * D + 8 ^ suc n * C
 more n d e D C h k =
     let A = 8 ^ n in
     let B = 3 ^ n in

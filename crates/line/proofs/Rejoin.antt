@@ -56,13 +56,13 @@ module _ (rows : List ℤ) (R : T (rowsPass rows)) (choice : List Float → List
         ap (λ (q : Quantised). q .status) (quantise-done rows choice p set (finite-of (all finite p) f) (held-finite set (both turns .coder)) e (held-bounded set (both turns .coder)));
     takes = λ turns turn a. ap (λ (d : Lines). d .status) (takes rows R choice _ _ (both turns .decoder));
     equal = λ turns l. equal-run rows R choice start turns (record { coder = held-resting; decoder = held-resting }) l refl;
-    closer = λ turns row l i h D d.
+    closer = λ turns later l i h D d.
         let before = run (quantiseBy rows choice) (decodeLspFreq rows) start turns in
-        demanded _ _ _ _ (closer-run rows R choice before row (both turns) l i h D d);
-    close = λ turns row l many i h.
+        demanded _ _ _ _ (closer-run rows R choice before later (both turns) l i h D d);
+    close = λ turns later l many i h.
         let before = run (quantiseBy rows choice) (decodeLspFreq rows) start turns in
-        settled (arrivals (quantiseBy rows choice) (decodeLspFreq rows) before row) _ (32 * u) many
-        (demanded _ _ _ _ (closer-run rows R choice before row (both turns) l i h (33554432 * u + 33554432 * u) (held-apart (before .coder) (before .decoder) (both turns .coder) (both turns .decoder) i h)));
+        settled (arrivals (quantiseBy rows choice) (decodeLspFreq rows) before later) _ (32 * u) many
+        (demanded _ _ _ _ (closer-run rows R choice before later (both turns) l i h (33554432 * u + 33554432 * u) (held-apart (before .coder) (before .decoder) (both turns .coder) (both turns .decoder) i h)));
   }
 
 -- ---- any rows that pass, and the search

@@ -37,17 +37,20 @@ module _ (low high : ℤ) where
   take-in (suc n) [] t = t
   take-in (suc n) (z ∷ zs) t = yes-and (inside low high z) (allInside low high (take n zs)) (head-in z zs t) (take-in n zs (tail-in z zs t))
 
-  pub list-at : Inside low high (pos 0) → (zs : List ℤ) → T (allInside low high zs) → (i : ℕ) → Inside low high (getD zs i (pos 0))
+  pub list-at : Inside low high (pos 0) → (zs : List ℤ) → T (allInside low high zs) → (i : ℕ) →
+      Inside low high (getD zs i (pos 0))
   list-at o [] t i = o
   list-at o (z ∷ zs) t zero = one z (head-in z zs t)
   list-at o (z ∷ zs) t (suc i) = list-at o zs (tail-in z zs t) i
 
-  pub join-in : (zs ws : List ℤ) → T (allInside low high zs) → T (allInside low high ws) → T (allInside low high (zs ++ ws))
+  pub join-in : (zs ws : List ℤ) → T (allInside low high zs) → T (allInside low high ws) →
+      T (allInside low high (zs ++ ws))
   unfolding allInside
   join-in [] ws t s = s
   join-in (z ∷ zs) ws t s = yes-and (inside low high z) (allInside low high (zs ++ ws)) (head-in z zs t) (join-in zs ws (tail-in z zs t) s)
 
-  pub row-in : (rows : List ℤ) (width place : ℕ) → T (allInside low high rows) → T (allInside low high (rowFrom rows width place))
+  pub row-in : (rows : List ℤ) (width place : ℕ) → T (allInside low high rows) →
+      T (allInside low high (rowFrom rows width place))
   unfolding rowFrom
   row-in rows width place t = take-in width (drop place rows) (drop-in place rows t)
 

@@ -13,11 +13,13 @@ use Rattle.spec_tables.specs.Band.{placeOf}
 use Rattle.spec_tables.specs.Rows.{rowFrom, row, padded}
 use Rattle.spec_tables.proofs.Bands.{row-fits}
 
-pub from-at : (rows : List ℤ) (width place j : ℕ) → j < width → getD (rowFrom rows width place) j (pos 0) ≡ getD rows (place + j) (pos 0)
+pub from-at : (rows : List ℤ) (width place j : ℕ) → j < width →
+    getD (rowFrom rows width place) j (pos 0) ≡ getD rows (place + j) (pos 0)
 unfolding rowFrom
 from-at rows width place j h = getD-take width (drop place rows) j (pos 0) h ∙ getD-drop place rows j (pos 0)
 
-pub from-length : (rows : List ℤ) (width place : ℕ) → place + width ≤ length rows → length (rowFrom rows width place) ≡ width
+pub from-length : (rows : List ℤ) (width place : ℕ) → place + width ≤ length rows →
+    length (rowFrom rows width place) ≡ width
 unfolding rowFrom
 from-length rows width place h = length-take-le width (drop place rows) (simp length-drop (omega arith))
 

@@ -22,7 +22,8 @@ last : (p : List Float) (i : ℕ) → i ≡ 9 → at p 9 ⊖ at p 8 ≡ nearest 
 unfolding nearest
 last p i e = rw e
 
-inner : (p : List Float) (i : ℕ) (x : Float) → (i ≡ 0 → ⊥) → (i ≡ 9 → ⊥) → x ≡ smaller (at p i ⊖ at p (i - 1)) (at p (i + 1) ⊖ at p i) → x ≡ nearest p i
+inner : (p : List Float) (i : ℕ) (x : Float) → (i ≡ 0 → ⊥) → (i ≡ 9 → ⊥) →
+    x ≡ smaller (at p i ⊖ at p (i - 1)) (at p (i + 1) ⊖ at p i) → x ≡ nearest p i
 unfolding nearest
 inner p zero x h k e = absurd (h refl)
 inner p (suc i) x h k e =
