@@ -11,7 +11,8 @@ use lib.Ieee.Fits.{and-i}
 use lib.ListN.{length, getD}
 use Rattle.float.specs.Refusal.{all}
 
-pub all-each : {A : Type 0} (p : A → Bool) (s : List A) (d : A) → ((i : ℕ) → i < length s → T (p (getD s i d))) → T (all p s)
+pub all-each : {A : Type 0} (p : A → Bool) (s : List A) (d : A) → ((i : ℕ) → i < length s → T (p (getD s i d))) →
+    T (all p s)
 unfolding all
 all-each p [] d h = tt
 all-each p (x ∷ xs) d h = and-i (p x) (all p xs) (h 0 (zero-lt-suc (length xs))) (all-each p xs d (λ i l. h (suc i) (omega arith)))

@@ -1,10 +1,10 @@
 -- A set that the line holds: ten values, each finite and within 16,384 of its resting one. The resting set is one; the decoder makes one of one, with any rows whose
 -- numbers are small; neither end refuses one. Two that are decoded alike come closer. Assumes nothing.
 use mathlib.Core.Path.{_≡_, refl, sym, ap, _∙_, subst}
-use mathlib.Core.Bool.{Bool, true, false, not, _&&_, cond}
+use mathlib.Core.Bool.{Bool, true, false, not}
 use mathlib.Core.Logic.{_⊎_, inl, inr}
 use mathlib.Core.List.{List}
-use Prim.Native.Nat.{ℕ, zero, suc, _+_, _-_, _*_, _^_, _≤_, _<_, zero-le}
+use Prim.Native.Nat.{ℕ, suc, _+_, _*_, _^_, _≤_, _<_, zero-le}
 use native.Mathlib.Nat.{le-refl, le-trans, le-of-eq, lt-of-le-of-lt, mul-le-mul-right}
 use native.Mathlib.Omega.{arith}
 use lib.Dec.{T, lit<}
@@ -18,7 +18,6 @@ use Rattle.float.specs.Difference.{plus, less, difference}
 use Rattle.float.specs.Finite.{power, exceeds, anyExceeds}
 use Rattle.float.specs.Refusal.{all}
 use Rattle.float.specs.Single.{single}
-use Rattle.float.specs.Table.{table}
 use Rattle.float.specs.Vector.{at}
 use Rattle.float.proofs.Near.{Good, one-side}
 use Rattle.float.proofs.Table.{length-table, at-table}
@@ -32,7 +31,7 @@ use Rattle.row_search.specs.Error.{number}
 use Rattle.spec_lsp.specs.Decode.{rebuilt, rowNumbers, decoded}
 use Rattle.spec_lsp.specs.Resting.{resting}
 use Rattle.line.specs.Claim.{Near, Ten}
-use Rattle.line.proofs.Drift.{apart-above, apart-below, apart-most, between, below-limit}
+use Rattle.line.proofs.Drift.{apart-most, between, below-limit}
 use Rattle.line.proofs.Each.{all-each, is-true}
 use Rattle.line.proofs.Rebuild as rebuild
 use Rattle.line.proofs.Rebuild.{Inside, Resting, Small}
@@ -95,7 +94,8 @@ module _ (rows : List ℤ) (R : T (rowsPass rows)) where
 step-inside : (x dc row : Float) → Inside u dc x → Resting u dc → Small u row → Inside u dc (rebuilt x dc row)
 step-inside = rebuild.inside u (pow-pos 138) refl refl refl refl refl refl
 
-step-shrinks : (x y dc row : Float) → Inside u dc x → Inside u dc y → Resting u dc → Small u row → 8 * difference (rebuilt x dc row) (rebuilt y dc row) + 3 * (32 * u) ≤ 3 * difference x y + 8 * (32 * u)
+step-shrinks : (x y dc row : Float) → Inside u dc x → Inside u dc y → Resting u dc → Small u row →
+    8 * difference (rebuilt x dc row) (rebuilt y dc row) + 3 * (32 * u) ≤ 3 * difference x y + 8 * (32 * u)
 step-shrinks = rebuild.shrinks u (pow-pos 138) refl refl refl refl refl refl
 
 -- ---- a set
@@ -120,7 +120,8 @@ held-resting = record {
   each = λ i h. subst (λ (x : Float). Inside u (number dcFreq i) x) (sym (at-resting i h)) (self-inside (number dcFreq i) (rests i .good));
 }
 
-pub at-decoded : (rows : List ℤ) (index : ℕ) (prev : List Float) (i : ℕ) → i < 10 → at (decoded rows index prev) i ≡ rebuilt (at prev i) (number dcFreq i) (number (rowNumbers rows index) i)
+pub at-decoded : (rows : List ℤ) (index : ℕ) (prev : List Float) (i : ℕ) → i < 10 →
+    at (decoded rows index prev) i ≡ rebuilt (at prev i) (number dcFreq i) (number (rowNumbers rows index) i)
 unfolding decoded
 at-decoded rows index prev i h = at-table 10 (λ k. rebuilt (at prev k) (number dcFreq k) (number (rowNumbers rows index) k)) i nan h
 
@@ -128,13 +129,15 @@ pub length-decoded : (rows : List ℤ) (index : ℕ) (prev : List Float) → len
 unfolding decoded
 length-decoded rows index prev = length-table 10 (λ k. rebuilt (at prev k) (number dcFreq k) (number (rowNumbers rows index) k))
 
-pub held-decoded : (rows : List ℤ) → T (rowsPass rows) → (index : ℕ) (prev : List Float) → Held prev → Held (decoded rows index prev)
+pub held-decoded : (rows : List ℤ) → T (rowsPass rows) → (index : ℕ) (prev : List Float) → Held prev →
+    Held (decoded rows index prev)
 held-decoded rows R index prev p = record {
   long = length-decoded rows index prev;
   each = λ i h. subst (λ (x : Float). Inside u (number dcFreq i) x) (sym (at-decoded rows index prev i h)) (step-inside (at prev i) (number dcFreq i) (number (rowNumbers rows index) i) (p .each i h) (rests i) (rows-small rows R index i));
 }
 
-pub decoded-shrinks : (rows : List ℤ) → T (rowsPass rows) → (index : ℕ) (x y : List Float) → Held x → Held y → (i : ℕ) → i < 10 →
+pub decoded-shrinks : (rows : List ℤ) → T (rowsPass rows) → (index : ℕ) (x y : List Float) → Held x → Held y →
+    (i : ℕ) → i < 10 →
     8 * difference (at (decoded rows index x) i) (at (decoded rows index y) i) + 3 * (32 * u) ≤ 3 * difference (at x i) (at y i) + 8 * (32 * u)
 decoded-shrinks rows R index x y p q i h =
     subst (λ (z : Float). 8 * difference z (at (decoded rows index y) i) + 3 * (32 * u) ≤ 3 * difference (at x i) (at y i) + 8 * (32 * u)) (sym (at-decoded rows index x i h))
@@ -188,7 +191,8 @@ ten-held set p = record {
 }
 
 -- two of them lie within 32,768 of each other
-pub held-apart : (x y : List Float) → Held x → Held y → (i : ℕ) → i < 10 → difference (at x i) (at y i) ≤ 33554432 * u + 33554432 * u
+pub held-apart : (x y : List Float) → Held x → Held y → (i : ℕ) → i < 10 →
+    difference (at x i) (at y i) ≤ 33554432 * u + 33554432 * u
 unfolding difference
 held-apart x y p q i h =
     let a = at x i in

@@ -19,7 +19,8 @@ stays : (e : Float) (n : ℕ) (s : Float × ℕ) → lt e (s .0) ≡ false → b
 unfolding better
 stays e n s h = rw h
 
-pub none-below : (s : Float × ℕ) (a b c d : Float) (i j k l : ℕ) → lt a (s .0) || lt b (s .0) || lt c (s .0) || lt d (s .0) ≡ false →
+pub none-below : (s : Float × ℕ) (a b c d : Float) (i j k l : ℕ) →
+    lt a (s .0) || lt b (s .0) || lt c (s .0) || lt d (s .0) ≡ false →
     s ≡ better d l (better c k (better b j (better a i s)))
 none-below s a b c d i j k l h =
     let abc = left (lt a (s .0) || lt b (s .0) || lt c (s .0)) (lt d (s .0)) h in

@@ -1,12 +1,11 @@
 -- The invariant of a search through rows one after the other, with its laws: after n rows the smallest error and its index are those of the first n, and the
 -- next row stands n widths further on. Rows are taken one at a time or four at a time; four are one taken four times. Assumes nothing.
 use mathlib.Core.Path.{_≡_, refl, sym, ap, _∙_}
-use mathlib.Core.Bool.{false}
 use Prim.Native.Nat.{ℕ, _+_, _*_, _≤_, zero-le}
 use native.Mathlib.Nat.{add-mul, add-zero, zero-mul, mul-le-mul-right}
 use native.Mathlib.Numerals.{add-one}
 use native.Mathlib.Omega.{arith}
-use lib.Ieee.{Float, inf, binary32, div, ofBits}
+use lib.Ieee.{Float, binary32, div, ofBits}
 use Rattle.row_search.specs.Search.{better, among, best}
 use Rattle.row_search.specs.speed.Four.{fourRows}
 
@@ -19,7 +18,8 @@ pub record Searching (error : ℕ → Float) (first width count size n : ℕ) (f
 
 module _ {error : ℕ → Float} {first width count size : ℕ} where
   -- no row; the code writes infinity as 1 / 0
-  pub searching-none : first + count * width ≤ size → Searching error first width count size 0 (div binary32 (ofBits binary32 1065353216) (ofBits binary32 0), 0) first
+  pub searching-none : first + count * width ≤ size →
+      Searching error first width count size 0 (div binary32 (ofBits binary32 1065353216) (ofBits binary32 0), 0) first
   unfolding among div ofBits
   searching-none f = record {
     fits = f;
@@ -30,13 +30,15 @@ module _ {error : ℕ → Float} {first width count size : ℕ} where
 
 module _ {error : ℕ → Float} {first width count size n : ℕ} {found : Float × ℕ} {place : ℕ} where
   -- the row that stands k widths further on
-  searching-place : (k p : ℕ) → p ≡ place + k * width → Searching error first width count size n found place → p ≡ first + (n + k) * width
+  searching-place : (k p : ℕ) → p ≡ place + k * width → Searching error first width count size n found place →
+      p ≡ first + (n + k) * width
   searching-place k p e r =
       let d : (n + k) * width ≡ n * width + k * width = add-mul n k width in
       omega (arith, r .next)
 
   -- the next k rows lie within
-  pub searching-room : (k : ℕ) → n + k ≤ count → Searching error first width count size n found place → place + k * width ≤ size
+  pub searching-room : (k : ℕ) → n + k ≤ count → Searching error first width count size n found place →
+      place + k * width ≤ size
   searching-room k h r =
       let g : (n + k) * width ≤ count * width = mul-le-mul-right width h in
       omega (arith, searching-place k _ refl r, r .fits)
@@ -53,13 +55,15 @@ module _ {error : ℕ → Float} {first width count size n : ℕ} {found : Float
     so-far = rw (k, add-one n, ← r .so-far, ← r .next, ← s) t;
   }
 
-  pub searching-all : count ≤ n → Searching error first width count size n found place → found .1 ≡ best (λ k. error (first + k * width)) count
+  pub searching-all : count ≤ n → Searching error first width count size n found place →
+      found .1 ≡ best (λ k. error (first + k * width)) count
   searching-all h r =
       let e : n ≡ count = omega (arith, r .bound) in
       ap (λ (x : Float × ℕ). x .1) (r .so-far) ∙ ap (best (λ k. error (first + k * width))) e
 
 -- four rows more
-pub searching-four : {error : ℕ → Float} {first width count size n : ℕ} {found : Float × ℕ} {place : ℕ} {found' : Float × ℕ} → n + 4 ≤ count →
+pub searching-four : {error : ℕ → Float} {first width count size n : ℕ} {found : Float × ℕ} {place : ℕ} {found' : Float × ℕ} →
+    n + 4 ≤ count →
     found' ≡ fourRows error width place n found → Searching error first width count size n found place →
     Searching error first width count size (n + 4) found' (place + 4 * width)
 unfolding fourRows

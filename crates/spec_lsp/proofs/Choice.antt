@@ -13,10 +13,12 @@ module _ (rows : List ℤ) (t w : List Float) (band : LspBand) where
   unfolding chosen
   chosen-lt = best-lt (bandError rows t w band) 256 (lit< tt)
 
-  pub none-smaller-chosen : (k : ℕ) → k < 256 → T (lt (bandError rows t w band k) (bandError rows t w band (chosen rows t w band))) → ⊥
+  pub none-smaller-chosen : (k : ℕ) → k < 256 →
+      T (lt (bandError rows t w band k) (bandError rows t w band (chosen rows t w band))) → ⊥
   unfolding chosen
   none-smaller-chosen k h = none-smaller (bandError rows t w band) 256 k h
 
-  pub none-before-chosen : (k : ℕ) → k < chosen rows t w band → T (le (bandError rows t w band k) (bandError rows t w band (chosen rows t w band))) → ⊥
+  pub none-before-chosen : (k : ℕ) → k < chosen rows t w band →
+      T (le (bandError rows t w band k) (bandError rows t w band (chosen rows t w band))) → ⊥
   unfolding chosen
   none-before-chosen k h = none-before (bandError rows t w band) 256 k h

@@ -34,7 +34,8 @@ pub place-fits : (b : LspBand) {p : BandPlace} {index first : ℕ} → first ≡
     Fits w64 (first + index * p .length)
 place-fits b {index = index} f e h = rw (e, f) (record { fits = omega (arith, row-fits b index h) })
 
-pub rows-within : (b : LspBand) {p : BandPlace} {first n : ℕ} → first ≡ firstRow b → p ≡ placeOf b → n ≡ 2560 → first + 256 * p .length ≤ n
+pub rows-within : (b : LspBand) {p : BandPlace} {first n : ℕ} → first ≡ firstRow b → p ≡ placeOf b → n ≡ 2560 →
+    first + 256 * p .length ≤ n
 rows-within Band0 e f h = rw (e, f, h) (lit≤ tt)
 rows-within Band1 e f h = rw (e, f, h) (lit≤ tt)
 rows-within Band2 e f h = rw (e, f, h) (lit≤ tt)

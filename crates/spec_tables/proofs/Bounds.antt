@@ -1,13 +1,12 @@
 -- What the test of a list gives at every place of every row, whatever the rows' place and width: a part of a list that passes does too, and so do two
 -- that pass when they are joined. A place past the end reads 0, so 0 must lie inside too.
 -- Assumes nothing.
-use mathlib.Core.Path.{_≡_}
 use mathlib.Core.List.{List, [], _∷_, _++_}
-use Prim.Native.Nat.{ℕ, zero, suc, _+_, _*_, _≤_, suc-le-suc}
+use Prim.Native.Nat.{ℕ, zero, suc, _≤_, suc-le-suc}
 use lib.Dec.{T, leb→le}
 use lib.IntN.{ℤ, pos, negsuc, natAbs}
 use lib.ListN.{getD, take, drop}
-use lib.Signed.{_≤ℤ_, leZ, leZ-yes}
+use lib.Signed.{leZ, leZ-yes}
 use mir.Facts.{and-yes, yes-and}
 use Rattle.spec_tables.specs.declared.LspBand.{LspBand}
 use Rattle.spec_tables.specs.Band.{placeOf}
@@ -38,17 +37,20 @@ module _ (low high : ℤ) where
   take-in (suc n) [] t = t
   take-in (suc n) (z ∷ zs) t = yes-and (inside low high z) (allInside low high (take n zs)) (head-in z zs t) (take-in n zs (tail-in z zs t))
 
-  pub list-at : Inside low high (pos 0) → (zs : List ℤ) → T (allInside low high zs) → (i : ℕ) → Inside low high (getD zs i (pos 0))
+  pub list-at : Inside low high (pos 0) → (zs : List ℤ) → T (allInside low high zs) → (i : ℕ) →
+      Inside low high (getD zs i (pos 0))
   list-at o [] t i = o
   list-at o (z ∷ zs) t zero = one z (head-in z zs t)
   list-at o (z ∷ zs) t (suc i) = list-at o zs (tail-in z zs t) i
 
-  pub join-in : (zs ws : List ℤ) → T (allInside low high zs) → T (allInside low high ws) → T (allInside low high (zs ++ ws))
+  pub join-in : (zs ws : List ℤ) → T (allInside low high zs) → T (allInside low high ws) →
+      T (allInside low high (zs ++ ws))
   unfolding allInside
   join-in [] ws t s = s
   join-in (z ∷ zs) ws t s = yes-and (inside low high z) (allInside low high (zs ++ ws)) (head-in z zs t) (join-in zs ws (tail-in z zs t) s)
 
-  pub row-in : (rows : List ℤ) (width place : ℕ) → T (allInside low high rows) → T (allInside low high (rowFrom rows width place))
+  pub row-in : (rows : List ℤ) (width place : ℕ) → T (allInside low high rows) →
+      T (allInside low high (rowFrom rows width place))
   unfolding rowFrom
   row-in rows width place t = take-in width (drop place rows) (drop-in place rows t)
 

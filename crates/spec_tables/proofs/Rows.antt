@@ -3,21 +3,23 @@
 -- Assumes nothing.
 use mathlib.Core.Path.{_≡_, refl, _∙_}
 use mathlib.Core.List.{List, [], _∷_, _++_}
-use Prim.Native.Nat.{ℕ, zero, suc, _+_, _-_, _*_, _≤_, _<_}
+use Prim.Native.Nat.{ℕ, zero, suc, _+_, _-_, _≤_, _<_}
 use native.Mathlib.Omega.{arith}
 use lib.IntN.{ℤ, pos}
 use lib.ListN.{length, take, drop, getD, replicate, length-drop}
 use lib.Seq.{getD-take, getD-drop, take-at, length-take-le}
 use Rattle.spec_tables.specs.declared.LspBand.{LspBand}
-use Rattle.spec_tables.specs.Band.{placeOf, firstRow}
+use Rattle.spec_tables.specs.Band.{placeOf}
 use Rattle.spec_tables.specs.Rows.{rowFrom, row, padded}
 use Rattle.spec_tables.proofs.Bands.{row-fits}
 
-pub from-at : (rows : List ℤ) (width place j : ℕ) → j < width → getD (rowFrom rows width place) j (pos 0) ≡ getD rows (place + j) (pos 0)
+pub from-at : (rows : List ℤ) (width place j : ℕ) → j < width →
+    getD (rowFrom rows width place) j (pos 0) ≡ getD rows (place + j) (pos 0)
 unfolding rowFrom
 from-at rows width place j h = getD-take width (drop place rows) j (pos 0) h ∙ getD-drop place rows j (pos 0)
 
-pub from-length : (rows : List ℤ) (width place : ℕ) → place + width ≤ length rows → length (rowFrom rows width place) ≡ width
+pub from-length : (rows : List ℤ) (width place : ℕ) → place + width ≤ length rows →
+    length (rowFrom rows width place) ≡ width
 unfolding rowFrom
 from-length rows width place h = length-take-le width (drop place rows) (simp length-drop (omega arith))
 

@@ -25,7 +25,8 @@ module _ (quantise : Coder) (decode : Decoder) (e : Ends) (t : Turn) (q : Quanti
   unfolding played step
   lost h b = rw (← f, eq-eqb (q .status) 0 h, not-true (t .brings) b)
 
-  unread : (d : Lines) → d ≡ decode (q .index) (e .decoder) → q .status ≡ 0 → not (t .brings) ≡ false → (d .status ≡ 0 → ⊥) →
+  unread : (d : Lines) → d ≡ decode (q .index) (e .decoder) → q .status ≡ 0 → not (t .brings) ≡ false →
+      (d .status ≡ 0 → ⊥) →
       _≡_ {A = Played} (record { ends = record { coder = q .set; decoder = e .decoder }; sent = true; arrived = true })
       (played quantise decode e t)
   unfolding played step

@@ -2,7 +2,7 @@
 -- Assumes nothing.
 use borrow.Author.Needs.{needs}
 use Prim.Native.Nat.{ℕ, _+_, _-_, _≤_, _<_, zero-le}
-use mathlib.Core.Path.{_≡_, sym, ap, _∙_}
+use mathlib.Core.Path.{_≡_}
 use mathlib.Core.Bool.{false}
 use mathlib.Core.List.{List}
 use lib.IntN.{ℤ, pos}
@@ -32,7 +32,8 @@ Inv-loop rows place width target weights start error₀ j₀ error j = Summed ro
 abbrev μ-loop : tie.MeasureT-loop
 μ-loop rows place width target weights start error₀ j₀ error j = width - j
 
-none : {rows : List ℤ} {place width start : ℕ} {target weights : List Float} → Summed rows place width target weights start 0 (ofBits binary32 0)
+none : {rows : List ℤ} {place width start : ℕ} {target weights : List Float} →
+    Summed rows place width target weights start 0 (ofBits binary32 0)
 unfolding ofBits
 none {width = width} = record { went = went-none 0 width _ (fin false 0 (pos 0)) zero-le }
 
@@ -46,7 +47,8 @@ turn rows place width start target weights j error h e r =
     record { went = went-more 0 width _ _ j error _ h (rw (toZ-ofZ e, from-at rows width place j h)) (r .went) }
 
 -- all of them
-done : (rows : List ℤ) (place width start : ℕ) (target weights : List Float) (j : ℕ) (error : Float) → place + width ≤ length rows → width ≤ j →
+done : (rows : List ℤ) (place width start : ℕ) (target weights : List Float) (j : ℕ) (error : Float) →
+    place + width ≤ length rows → width ≤ j →
     Summed rows place width target weights start j error → error ≡ rowError target weights start (rowFrom rows width place)
 unfolding rowError
 done rows place width start target weights j error f h r = rw (from-length rows width place f) (went-all 0 width _ _ j error h (r .went))

@@ -14,7 +14,8 @@ use Rattle.spec_lsp.specs.Quantise.{target, weights, chosen, indexOf}
 use Rattle.spec_lsp.proofs.quantise.best_index.Statement.{statement}
 use Rattle.spec_lsp.proofs.quantise.best_index.Tie as tie
 
-together : (rows : List ℤ) (p prev t w : List Float) (bands : List LspBand) (a b c r : ℕ) → t ≡ target p prev → w ≡ weights p → bands ≡ allBands →
+together : (rows : List ℤ) (p prev t w : List Float) (bands : List LspBand) (a b c r : ℕ) → t ≡ target p prev →
+    w ≡ weights p → bands ≡ allBands →
     a ≡ chosen rows t w (getD bands 0 Band0) → b ≡ chosen rows t w (getD bands 1 Band0) → c ≡ chosen rows t w (getD bands 2 Band0) →
     r ≡ combine (a ∷ b ∷ c ∷ []) → r ≡ indexOf rows p prev
 unfolding indexOf

@@ -2,7 +2,7 @@
 use borrow.Author.Needs.{needs}
 use mathlib.Core.Path.{_≡_, _∙_}
 use mathlib.Core.List.{List}
-use Prim.Native.Nat.{ℕ, _<_}
+use Prim.Native.Nat.{ℕ}
 use lib.Dec.{lit<}
 use lib.IntN.{ℤ}
 use lib.Ieee.{Float}
@@ -21,7 +21,8 @@ use Rattle.spec_lsp.proofs.quantise.choose.Tie as tie
 byte : (error : ℕ → Float) {r : ℕ} → r ≡ best error 256 → Fits w8 r
 byte error e = record { fits = rw e (best-lt error 256 (lit< tt)) }
 
-is-chosen : (rows : List ℤ) (t w : List Float) (band : LspBand) (first r : ℕ) (p : BandPlace) → first ≡ firstRow band → p ≡ placeOf band →
+is-chosen : (rows : List ℤ) (t w : List Float) (band : LspBand) (first r : ℕ) (p : BandPlace) →
+    first ≡ firstRow band → p ≡ placeOf band →
     r ≡ best (errors t w (p .start) rows (p .length) first) 256 → r ≡ chosen rows t w band
 unfolding chosen
 is-chosen rows t w band first r p e f g = g ∙ rw (e, f)

@@ -34,12 +34,14 @@ abbrev μ-loop : tie.MeasureT-loop
 μ-loop p prev dc t₀ i₀ t i = 10 - i
 
 -- a number more: what the code reads of a resting value's sixteen bits is the value
-turn : (p prev : List Float) (dc : List ℤ) (i : ℕ) (out : List Float) {x : Float} → i < 10 → SFits w16 (getD dc i (pos 0)) →
+turn : (p prev : List Float) (dc : List ℤ) (i : ℕ) (out : List Float) {x : Float} → i < 10 →
+    SFits w16 (getD dc i (pos 0)) →
     let rest = ofInt binary32 (toZ w16 (ofZ w16 (getD dc i (pos 0)))) in
     x ≡ predicted (at prev i) rest → Aimed p prev dc i out → Aimed p prev dc (i + 1) (set out i (at p i ⊖ rest ⊖ x))
 turn p prev dc i out h e f r = record { filled = filled-more 10 (one p prev dc) i out _ h (rw (f, toZ-ofZ e)) (r .filled) }
 
-done : {p prev : List Float} {dc : List ℤ} {i : ℕ} {out : List Float} → 10 ≤ i → dc ≡ dcFreq → Aimed p prev dc i out → out ≡ target p prev
+done : {p prev : List Float} {dc : List ℤ} {i : ℕ} {out : List Float} → 10 ≤ i → dc ≡ dcFreq → Aimed p prev dc i out →
+    out ≡ target p prev
 unfolding target
 done {p} {prev} {dc} {i} {out} h e r = filled-all 10 (one p prev dc) i out h (r .filled) ∙ ap (λ (d : List ℤ). table 10 (one p prev d)) e
 

@@ -1,7 +1,7 @@
 -- `spec_tables::LspBand::first_row` meets its contract: no band starts past the sixth frequency, so the product fits.
 -- Assumes nothing.
 use mathlib.Core.Path.{ap}
-use Prim.Native.Nat.{ℕ, _*_}
+use Prim.Native.Nat.{_*_}
 use borrow.Author.Needs.{needs}
 use Rattle.spec_tables.specs.declared.BandPlace.{BandPlace}
 use Rattle.spec_tables.proofs.Bands.{first-fits}

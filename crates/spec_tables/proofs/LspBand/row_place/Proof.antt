@@ -1,6 +1,6 @@
 -- `spec_tables::LspBand::row_place` meets its contract: `index` rows after the band's first one.
 -- Assumes nothing.
-use mathlib.Core.Path.{_≡_, ap}
+use mathlib.Core.Path.{_≡_}
 use Prim.Native.Nat.{ℕ, _+_, _*_}
 use borrow.Author.Needs.{needs}
 use Rattle.spec_tables.specs.declared.BandPlace.{BandPlace}
