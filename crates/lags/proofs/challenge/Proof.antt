@@ -1,5 +1,6 @@
 -- `lags::challenge` meets its contract: each answer is the rule's at the tests that led to it. Assumes nothing.
 use borrow.Author.Needs.{needs}
+use native.Mathlib.Omega.{arith}
 use borrow.Author.Tests.{lt-ltb, le-ltb}
 use mathlib.Core.Path.{_≡_}
 use mathlib.Core.Bool.{Bool, true, false, not, cond}
@@ -43,9 +44,9 @@ challenge-spec =
     -- add-far
     (λ c. search needs)
     -- returns-2
-    (λ c. search near)
+    (λ c. search (near, arith))
     -- returns-3
-    (λ c. search near)
+    (λ c. search (near, arith))
     -- returns-4
     (λ c. search far)
     -- returns-5
