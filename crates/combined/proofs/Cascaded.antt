@@ -11,12 +11,12 @@ use Rattle.float.specs.Loop.{times}
 use Rattle.float.specs.Table.{table}
 use Rattle.float.specs.Vector.{at}
 use Rattle.weighting.specs.Filter.{weighted}
-use Rattle.weighting.specs.speed.Delay.{behind, Delay}
+use Rattle.weighting.specs.inner.Delay.{behind, Delay}
 use Rattle.weighting.proofs.Delay.{behind-set}
 use Rattle.combined.specs.declared.CombinedMem.{CombinedMem}
 use Rattle.combined.specs.declared.Combined.{Combined}
 use Rattle.combined.specs.Memory.{reach}
-use Rattle.combined.specs.speed.Shaped.{shaped}
+use Rattle.combined.specs.inner.Shaped.{shaped}
 use Rattle.combined.specs.Cascade.{Settings, Cascade, synthesised, cascaded}
 use Rattle.combined.specs.Run.{done}
 use Rattle.combined.proofs.History.{harmonic-length, out-shaped}

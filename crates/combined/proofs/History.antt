@@ -17,7 +17,7 @@ use Rattle.float.proofs.Table.{same-table}
 use Rattle.float.proofs.Loop.{over-more}
 use Rattle.combined.specs.declared.CombinedMem.{CombinedMem}
 use Rattle.combined.specs.Memory.{reach, last}
-use Rattle.combined.specs.speed.Shaped.{shaped}
+use Rattle.combined.specs.inner.Shaped.{shaped}
 use Rattle.combined.specs.Cascade.{Settings, Cascade, back, sample, start, cascaded}
 use Rattle.combined.specs.Run.{after}
 

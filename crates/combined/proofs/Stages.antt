@@ -11,7 +11,7 @@ use lib.Ieee.{Float, nan}
 use Rattle.float.specs.Vector.{at}
 use Rattle.float.proofs.Loop.{over-more}
 use Rattle.weighting.specs.Filter.{weighted}
-use Rattle.weighting.specs.speed.Delay.{behind}
+use Rattle.weighting.specs.inner.Delay.{behind}
 use Rattle.weighting.proofs.Delay.{behind-next, behind-set, behind-more}
 use Rattle.combined.specs.declared.CombinedMem.{CombinedMem}
 use Rattle.combined.specs.Cascade.{Settings, Cascade, synthesised, sample, start, cascaded}

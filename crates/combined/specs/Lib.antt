@@ -2,4 +2,4 @@
 pub mod Memory
 pub mod Cascade
 pub mod Run
-pub mod speed
+pub mod inner

@@ -8,11 +8,11 @@ ghost use Rattle.float.specs.Finite.{notFinite};
 ghost use Rattle.float.specs.Refusal.{any, first};
 ghost use Rattle.float.specs.Single.{_⊖_, _⊗_};
 ghost use Rattle.float.specs.Table.{table};
-ghost use Rattle.weighting.specs.speed.Delay.{behind};
+ghost use Rattle.weighting.specs.inner.Delay.{behind};
 ghost use Rattle.combined.specs.Memory.{reach, atRest, floats};
 ghost use Rattle.combined.specs.Cascade.{settings, synthesised, cascaded};
 ghost use Rattle.combined.specs.Run.{done, refusal, combinedRefusals, runCombined};
-ghost use Rattle.combined.specs.speed.Shaped.{shaped};
+ghost use Rattle.combined.specs.inner.Shaped.{shaped};
 
 // How many harmonic inputs the history holds: the longest lag.
 pub const REACH: usize = 145;

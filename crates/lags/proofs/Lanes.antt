@@ -12,8 +12,8 @@ use lib.ListN.{getD}
 use Rattle.float.specs.Table.{table}
 use Rattle.lags.specs.declared.FourLags.{FourLags}
 use Rattle.lags.specs.Lags.{cross}
-use Rattle.lags.specs.speed.Delayed.{delayed}
-use Rattle.lags.specs.speed.Four.{sampleMore}
+use Rattle.lags.specs.inner.Delayed.{delayed}
+use Rattle.lags.specs.inner.Four.{sampleMore}
 use Rattle.lags.proofs.Sums.{cross-none, cross-more, cross-all, delayed-none, delayed-more, delayed-all}
 
 pub record Lanes (x q : List Float) (o n top : ℕ) (s : FourLags) : Type 0 where

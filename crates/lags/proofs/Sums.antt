@@ -10,7 +10,7 @@ use lib.ListN.{getD}
 use Rattle.float.specs.Loop.{times, sum}
 use Rattle.float.proofs.Loop.{Went, went-more}
 use Rattle.lags.specs.Lags.{cross}
-use Rattle.lags.specs.speed.Delayed.{delayed}
+use Rattle.lags.specs.inner.Delayed.{delayed}
 
 -- one term more
 pub sum-more : (f : Format) (n : ℕ) (term : ℕ → Float) → sum f 0 (n + 1) term ≡ add f (sum f 0 n term) (term n)

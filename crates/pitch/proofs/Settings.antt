@@ -14,7 +14,7 @@ use Rattle.lags.specs.declared.Best.{Best}
 use Rattle.lags.specs.declared.EightLags.{EightLags}
 use Rattle.pitch.specs.declared.HnsParams.{HnsParams}
 use Rattle.lags.specs.Lags.{cross, power, gain}
-use Rattle.lags.specs.speed.Delayed.{delayed}
+use Rattle.lags.specs.inner.Delayed.{delayed}
 use Rattle.lags.specs.Search.{offered, nothing, winner, preferred, greater}
 use Rattle.pitch.specs.Shaping.{shapingOff, settled, shaped, settings}
 use Rattle.lags.proofs.Turns.{squares, kept-power, own, block}

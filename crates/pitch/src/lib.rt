@@ -10,7 +10,7 @@ ghost use Rattle.float.specs.Refusal.{first};
 ghost use Rattle.lags.specs.Search.{winner, preferred};
 ghost use Rattle.pitch.specs.Gate.{atMostOne, passes};
 ghost use Rattle.pitch.specs.Pitch.{refusedPitch, start, pitchRefusals, openLoopPitch};
-ghost use Rattle.pitch.specs.Readable.{Half, Subframe};
+ghost use Rattle.pitch.specs.inner.Readable.{Half, Subframe};
 ghost use Rattle.pitch.specs.Shaping.{shapingOff, held, factor, settled, settings, refusedShaping, shapingRefusals, harmonicNoiseShaping};
 
 // The open-loop lag of one half of the frame.

@@ -7,7 +7,7 @@ use native.Mathlib.Numerals.{add-one}
 use native.Mathlib.Omega.{arith}
 use lib.Ieee.{Float, binary32, div, ofBits}
 use Rattle.row_search.specs.Search.{better, among, best}
-use Rattle.row_search.specs.speed.Four.{fourRows}
+use Rattle.row_search.specs.inner.Four.{fourRows}
 
 -- `error` is that of the row at a place, and all `count` rows lie among `size` numbers
 pub record Searching (error : ℕ → Float) (first width count size n : ℕ) (found : Float × ℕ) (place : ℕ) : Type 0 where

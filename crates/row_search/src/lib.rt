@@ -6,7 +6,7 @@ ghost use lib.ListN.{length};
 ghost use Rattle.spec_tables.specs.Rows.{rowFrom};
 ghost use Rattle.row_search.specs.Error.{rowError};
 ghost use Rattle.row_search.specs.Search.{better, best, errors};
-ghost use Rattle.row_search.specs.speed.Four.{pair, fourRows};
+ghost use Rattle.row_search.specs.inner.Four.{pair, fourRows};
 
 // The smallest error so far and its index.
 struct Smallest {

@@ -13,7 +13,7 @@ use Rattle.float.specs.Table.{table}
 use Rattle.float.specs.Vector.{at}
 use Rattle.float.proofs.Table.{at-table, same-table, table-first, take-table, table-entries, Filled}
 use Rattle.weighting.specs.Filter.{later}
-use Rattle.weighting.specs.speed.Delay.{behind, Delay}
+use Rattle.weighting.specs.inner.Delay.{behind, Delay}
 
 -- ---- delays
 pub at-behind : (n : ℕ) (delay : List Float) (k : ℕ) → k < 10 → at (behind n delay) k ≡ at delay (n + 9 - k)

@@ -14,7 +14,7 @@ use Rattle.float.specs.Vector.{at}
 use Rattle.float.proofs.Loop.{over-more}
 use Rattle.weighting.specs.declared.Weighted.{Weighted}
 use Rattle.weighting.specs.Filter.{Filter, weighted, later, sample, filtered, done}
-use Rattle.weighting.specs.speed.Delay.{behind, Delay}
+use Rattle.weighting.specs.inner.Delay.{behind, Delay}
 use Rattle.weighting.proofs.Delay.{behind-next, behind-more}
 
 -- a delay's own memory

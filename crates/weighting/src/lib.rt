@@ -9,7 +9,7 @@ ghost use Rattle.float.specs.Refusal.{any, first};
 ghost use Rattle.float.specs.Single.{_⊕_, _⊖_, _⊗_};
 ghost use Rattle.weighting.specs.Taps.{taps, refusedTaps, weightingTaps};
 ghost use Rattle.weighting.specs.Filter.{weighted, filtered, done, refusal, subframeRefusals, weightSubframe};
-ghost use Rattle.weighting.specs.speed.Delay.{behind, Delay};
+ghost use Rattle.weighting.specs.inner.Delay.{behind, Delay};
 
 pub struct WeightingTaps {
     pub status: u32,

@@ -3,7 +3,7 @@ use borrow.Author.Needs.{needs}
 use mathlib.Core.Path.{refl}
 use Prim.Native.Nat.{_-_}
 use Rattle.float.proofs.Table.{Filled, filled-none, filled-more, filled-all}
-use Rattle.combined.specs.speed.Shaped.{shaped}
+use Rattle.combined.specs.inner.Shaped.{shaped}
 use Rattle.combined.proofs.shape.Statement.{statement}
 use Rattle.combined.proofs.shape.Tie as tie
 

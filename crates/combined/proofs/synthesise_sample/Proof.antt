@@ -8,7 +8,7 @@ use lib.Ieee.{Float}
 use Rattle.float.specs.Single.{_⊖_, _⊗_}
 use Rattle.float.specs.Vector.{at}
 use Rattle.float.proofs.Loop.{Went, went-none, went-more, went-all}
-use Rattle.weighting.specs.speed.Delay.{behind}
+use Rattle.weighting.specs.inner.Delay.{behind}
 use Rattle.weighting.proofs.Delay.{at-behind}
 use Rattle.combined.specs.Cascade.{takeTap, synthesised}
 use Rattle.combined.proofs.synthesise_sample.Statement.{statement}

@@ -4,7 +4,7 @@ use native.Mathlib.Omega.{arith}
 use mathlib.Core.Path.{_≡_}
 use Prim.Native.Nat.{_-_, _≤_}
 use lib.Ieee.{ofBits}
-use Rattle.lags.specs.speed.Delayed.{delayed}
+use Rattle.lags.specs.inner.Delayed.{delayed}
 use Rattle.lags.proofs.Sums.{delayed-none, delayed-more, delayed-all}
 use Rattle.lags.proofs.energy.Statement.{statement}
 use Rattle.lags.proofs.energy.Tie as tie

@@ -13,7 +13,7 @@ use Rattle.float.proofs.Loop.{Went, went-none, went-all}
 use Rattle.lags.specs.declared.Best.{Best}
 use Rattle.lags.specs.declared.EightLags.{EightLags}
 use Rattle.lags.specs.Lags.{cross}
-use Rattle.lags.specs.speed.Delayed.{delayed}
+use Rattle.lags.specs.inner.Delayed.{delayed}
 use Rattle.lags.specs.Search.{offered, winner, preferred, nothing}
 use Rattle.lags.proofs.Turns.{squares, offer, block, turn}
 use Rattle.lags.proofs.search_in.Statement.{statement}

@@ -12,7 +12,7 @@ use Rattle.float.proofs.Refusal.{answer-refused, answer-done, clear, or-clear}
 use Rattle.pitch.specs.declared.HnsParams.{HnsParams}
 use Rattle.pitch.specs.declared.Shaping.{Shaping}
 use Rattle.pitch.specs.Shaping.{shapingRefusals, harmonicNoiseShaping}
-use Rattle.pitch.specs.Readable.{Subframe}
+use Rattle.pitch.specs.inner.Readable.{Subframe}
 use Rattle.pitch.proofs.harmonic_noise_shaping.Statement.{statement}
 use Rattle.pitch.proofs.harmonic_noise_shaping.Tie as tie
 

@@ -9,7 +9,7 @@ use Rattle.float.specs.Refusal.{first}
 use Rattle.float.proofs.Refusal.{answer-refused, answer-done, clear}
 use Rattle.pitch.specs.declared.OpenLoop.{OpenLoop}
 use Rattle.pitch.specs.Pitch.{pitchRefusals, openLoopPitch}
-use Rattle.pitch.specs.Readable.{Half}
+use Rattle.pitch.specs.inner.Readable.{Half}
 use Rattle.pitch.proofs.open_loop_pitch.Statement.{statement}
 use Rattle.pitch.proofs.open_loop_pitch.Tie as tie
 

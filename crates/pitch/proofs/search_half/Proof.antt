@@ -14,7 +14,7 @@ use Rattle.lags.specs.declared.Best.{Best}
 use Rattle.lags.specs.Search.{winner, preferred}
 use Rattle.lags.proofs.Window.{Copy, begins, copied, winner-window}
 use Rattle.pitch.specs.Pitch.{start}
-use Rattle.pitch.specs.Readable.{Half}
+use Rattle.pitch.specs.inner.Readable.{Half}
 use Rattle.pitch.proofs.search_half.Statement.{statement}
 use Rattle.pitch.proofs.search_half.Tie as tie
 

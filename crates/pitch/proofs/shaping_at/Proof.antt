@@ -13,7 +13,7 @@ use Rattle.float.proofs.Parts.{passes}
 use Rattle.lags.proofs.Window.{Copy, begins, copied}
 use Rattle.pitch.specs.declared.HnsParams.{HnsParams}
 use Rattle.pitch.specs.Shaping.{settings}
-use Rattle.pitch.specs.Readable.{Subframe}
+use Rattle.pitch.specs.inner.Readable.{Subframe}
 use Rattle.pitch.proofs.Settings.{settings-window}
 use Rattle.pitch.proofs.shaping_at.Statement.{statement}
 use Rattle.pitch.proofs.shaping_at.Tie as tie

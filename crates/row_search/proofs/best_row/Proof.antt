@@ -9,7 +9,7 @@ use lib.ListN.{length}
 use lib.Ieee.{Float}
 use Rattle.spec_tables.specs.Rows.{rowFrom}
 use Rattle.row_search.specs.Error.{rowError}
-use Rattle.row_search.specs.speed.Four.{pair}
+use Rattle.row_search.specs.inner.Four.{pair}
 use Rattle.row_search.proofs.Searching.{Searching, searching-none, searching-room, searching-more, searching-four, searching-all}
 use Rattle.row_search.proofs.best_row.Statement.{statement}
 use Rattle.row_search.proofs.best_row.Tie as tie

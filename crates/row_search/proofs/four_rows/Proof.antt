@@ -1,6 +1,6 @@
 -- `row_search::four_rows` meets its contract: each error is that of the row at its place, whichever way the width is known. Assumes nothing.
 use borrow.Author.Needs.{needs}
-use Rattle.row_search.specs.speed.Four.{fourRows}
+use Rattle.row_search.specs.inner.Four.{fourRows}
 use Rattle.row_search.proofs.four_rows.Statement.{statement}
 use Rattle.row_search.proofs.four_rows.Tie as tie
 

@@ -1,7 +1,7 @@
 -- `weighting::delayed` meets its contract: after i turns the first i samples stand behind the memory. Assumes nothing.
 use borrow.Author.Needs.{needs}
 use Prim.Native.Nat.{_-_}
-use Rattle.weighting.specs.speed.Delay.{behind}
+use Rattle.weighting.specs.inner.Delay.{behind}
 use Rattle.weighting.proofs.Delay.{Laid, laid-none, laid-more, laid-all}
 use Rattle.weighting.proofs.delayed.Statement.{statement}
 use Rattle.weighting.proofs.delayed.Tie as tie

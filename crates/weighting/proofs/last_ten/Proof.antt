@@ -4,7 +4,7 @@ use mathlib.Core.Path.{refl}
 use Prim.Native.Nat.{_-_}
 use Rattle.float.proofs.Table.{Filled, filled-none, filled-more, filled-all}
 use Rattle.float.specs.Vector.{at}
-use Rattle.weighting.specs.speed.Delay.{behind}
+use Rattle.weighting.specs.inner.Delay.{behind}
 use Rattle.weighting.proofs.last_ten.Statement.{statement}
 use Rattle.weighting.proofs.last_ten.Tie as tie
 

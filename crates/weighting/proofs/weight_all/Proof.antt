@@ -3,7 +3,7 @@ use borrow.Author.Needs.{needs}
 use mathlib.Core.Path.{refl}
 use Prim.Native.Nat.{_-_}
 use native.Mathlib.Omega.{arith}
-use Rattle.weighting.specs.speed.Delay.{behind}
+use Rattle.weighting.specs.inner.Delay.{behind}
 use Rattle.weighting.proofs.Running.{own-delay, Running, running-none, running-more, running-all}
 use Rattle.weighting.proofs.weight_all.Statement.{statement}
 use Rattle.weighting.proofs.weight_all.Tie as tie

@@ -8,7 +8,7 @@ use Rattle.float.specs.Single.{_⊕_, _⊖_, _⊗_}
 use Rattle.float.specs.Vector.{at}
 use Rattle.float.proofs.Loop.{Went, went-none, went-more, went-all}
 use Rattle.weighting.specs.Filter.{addTap, weighted}
-use Rattle.weighting.specs.speed.Delay.{behind}
+use Rattle.weighting.specs.inner.Delay.{behind}
 use Rattle.weighting.proofs.Delay.{at-behind}
 use Rattle.weighting.proofs.weight_sample.Statement.{statement}
 use Rattle.weighting.proofs.weight_sample.Tie as tie

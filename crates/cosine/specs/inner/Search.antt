@@ -5,7 +5,7 @@ use Prim.Native.Nat.{ℕ, _-_, _*_, _/_, _^_, _≤_, _<_}
 use lib.Dec.{leb}
 use lib.Ieee.{Float, nan, inf, fin, up, down}
 use Rattle.quarter.specs.Quarter.{quarter}
-use Rattle.cosine.specs.speed.Low.{low}
+use Rattle.cosine.specs.inner.Low.{low}
 
 -- entry i is no greater than q
 abbrev pub entryWithin : ℕ → ℕ → Bool

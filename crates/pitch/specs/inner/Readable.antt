@@ -1,5 +1,4 @@
--- What the work may count on once the check has passed: the samples that it reads are there, and finite.
--- No contract of an operation cites it. Assumes nothing.
+-- What the work may count on once the check has passed: the samples that it reads are there, and finite. Assumes nothing.
 use mathlib.Core.Path.{_≡_}
 use mathlib.Core.Bool.{true}
 use mathlib.Core.List.{List}

@@ -1,2 +1,0 @@
--- What only serves the code's speed; no contract of an operation cites it.
-pub mod Shaped
