@@ -11,7 +11,7 @@ ghost use lib.Ieee.Scale.{finite};
 ghost use Rattle.float.specs.Refusal.{all, any, first};
 ghost use Rattle.float.specs.Finite.{notFinite, exceeds, anyExceeds};
 ghost use Rattle.float.specs.Lines.{refusedLines};
-ghost use Rattle.float.specs.HalfEven.{halfEven};
+ghost use Rattle.float.specs.inner.HalfEven.{halfEven};
 ghost use Rattle.float.specs.Narrow.{narrow};
 
 // Neither infinite nor a NaN.
