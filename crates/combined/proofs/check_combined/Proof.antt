@@ -1,6 +1,5 @@
 -- `combined::check_combined` meets its contract: each return is the first refusal due, or 0. Assumes nothing.
 use borrow.Author.Needs.{needs}
-use native.Mathlib.Omega.{arith}
 use Rattle.float.proofs.Refusal.{checks, joined}
 use Rattle.combined.proofs.check_combined.Statement.{statement}
 use Rattle.combined.proofs.check_combined.Tie as tie
@@ -12,7 +11,7 @@ check-combined-spec =
     -- returns
     (λ c. search checks)
     -- returns-2
-    (λ c. search (checks, arith))
+    (λ c. search checks)
     -- memory-finite-requires
     (λ c κs. search needs)
     -- given-finite-requires

@@ -1,6 +1,5 @@
 -- `lags::challenge` meets its contract: each answer is the rule's at the tests that led to it. Assumes nothing.
 use borrow.Author.Needs.{needs}
-use native.Mathlib.Omega.{arith}
 use borrow.Author.Tests.{lt-ltb, le-ltb}
 use mathlib.Core.Path.{_≡_}
 use mathlib.Core.Bool.{Bool, true, false, not, cond}
@@ -44,9 +43,9 @@ challenge-spec =
     -- add-far
     (λ c. search needs)
     -- returns-2
-    (λ c. search (near, arith))
+    (λ c. search near)
     -- returns-3
-    (λ c. search (near, arith))
+    (λ c. search near)
     -- returns-4
     (λ c. search far)
     -- returns-5

@@ -38,7 +38,7 @@ check-shaping-spec =
     -- returns
     (λ c. search checks)
     -- returns-2
-    (λ c. search (checks, arith))
+    (λ c. search checks)
     -- returns-3
     (λ c. search checks)
     -- returns-4
