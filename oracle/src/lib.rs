@@ -11,6 +11,8 @@ pub mod both;
 pub mod distances;
 pub mod doors;
 pub mod given;
+#[path = "../../examples/rust/src/hash.rs"]
+pub mod hash;
 pub mod inputs;
 pub mod likely;
 pub mod line_coder;

@@ -5,6 +5,7 @@
 use crate::both::rust;
 use crate::doors::made::*;
 use crate::doors::resting_set;
+use crate::hash::Hash;
 use crate::makers::resting;
 
 type Ten = [f32; 10];
@@ -95,10 +96,11 @@ pub fn indices(coder: &LineCoder, call: &[i16]) -> Vec<u32> {
     all
 }
 
-/// FNV-1a, 64 bits, over the indices as four bytes each, lowest first.
+/// The hash of a call's indices.
 pub fn hash(indices: &[u32]) -> u64 {
-    let bytes = indices.iter().flat_map(|index| index.to_le_bytes());
-    bytes.fold(0xcbf2_9ce4_8422_2325, |hash, byte| (hash ^ u64::from(byte)).wrapping_mul(0x0000_0100_0000_01b3))
+    let mut hash = Hash::new();
+    indices.iter().for_each(|index| hash.number(*index));
+    hash.0
 }
 
 #[cfg(test)]

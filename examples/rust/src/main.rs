@@ -1,6 +1,7 @@
 //! Codes a call through the doors and decodes it at the other end, as examples/c/call.c does; prints the same lines.
 
 mod g7231;
+mod hash;
 
 use std::process::exit;
 
@@ -8,35 +9,9 @@ use g7231::doors::{
     G7231_FRAME as FRAME, G7231_NO_LINE_SET, G7231_PAST as PAST, G7231_SUBFRAME as SUBFRAME, G7231_WINDOW as WINDOW,
 };
 use g7231::{CombinedMem, Refusal, Taps, WeightingMem};
+use hash::Hash;
 
 const WEIGHTED: usize = PAST + FRAME;
-
-/// A hash of what was answered (FNV-1a, 64 bits, low byte first).
-struct Hash(u64);
-
-impl Hash {
-    fn new() -> Hash {
-        Hash(14695981039346656037)
-    }
-
-    fn bytes(&mut self, bytes: &[u8]) {
-        for byte in bytes {
-            self.0 = (self.0 ^ *byte as u64).wrapping_mul(1099511628211);
-        }
-    }
-
-    fn number(&mut self, number: u32) {
-        self.bytes(&number.to_le_bytes());
-    }
-
-    fn singles(&mut self, list: &[f32]) {
-        list.iter().for_each(|x| self.bytes(&x.to_le_bytes()));
-    }
-
-    fn doubles(&mut self, list: &[f64]) {
-        list.iter().for_each(|x| self.bytes(&x.to_le_bytes()));
-    }
-}
 
 /// From a set of line frequencies to the lines of the frame: held apart, or else the last frame's.
 fn settle(set: &[f32; 10], lines: &mut [f32; 10], answers: &mut Hash) -> Result<(), Refusal> {
