@@ -1,40 +1,38 @@
-/* Calls with an input in the same array as another buffer. Every door has made its whole answer before it writes, so
- * the bits must be those of buffers apart; and a refused call must leave the shared array alone. */
+/* Calls with an input that starts where another buffer of floats starts. Every door has made its whole answer before it
+ * writes, so the bits must be those of buffers apart; and a refused call must leave the shared array alone. This is what
+ * include/g7231.h allows, and no more. */
 #include <stdio.h>
 #include <stdlib.h>
 #include <string.h>
 
 #include "damage.h"
 
-enum { FILLER = 0x7fa01234 }; /* a signalling NaN */
+/* A signalling NaN. */
+enum { FILLER = 0x7fa01234 };
 
 struct answer {
     uint32_t status;
-    union {
-        double align;
-        uint32_t word[LONGEST];
-    } buffer[MOST];
+    union room room[MOST];
 };
 
 /* Calls with the buffers of the set `sharing` at the place of the buffer `with`. */
-static void ask(const struct door *door, const struct given *given, unsigned sharing, unsigned with,
+static void ask(const struct door *door, call *function, const struct given *given, unsigned sharing, unsigned with,
                 struct answer *answer)
 {
     union argument argument[MOST];
     for (unsigned i = 0; i < door->count; i++) {
         argument[i] = given->value[i];
-        if (!is_buffer(door->parameter[i].kind)) continue;
-        for (size_t n = 0; n < LONGEST; n++) answer->buffer[i].word[n] = FILLER;
-        argument[i].place = answer->buffer[i].word;
+        if (!is_buffer(&door->parameter[i])) continue;
+        for (size_t n = 0; n < ROOM_BYTES / 4; n++) answer->room[i].word[n] = FILLER;
+        argument[i].place = answer->room[i].byte;
     }
     for (unsigned i = 0; i < door->count; i++) {
-        const enum kind kind = door->parameter[i].kind;
-        if (!is_buffer(kind)) continue;
-        const int shares = sharing >> i & 1;
-        if (shares) argument[i].place = answer->buffer[with].word;
-        if (kind != MADE) memcpy(argument[i].place, given->word[i], given->count[i] * 4);
+        const struct parameter *parameter = &door->parameter[i];
+        if (!is_buffer(parameter)) continue;
+        if (sharing >> i & 1) argument[i].place = answer->room[with].byte;
+        if (parameter->way != MADE) memcpy(argument[i].place, given->room[i].byte, given->count[i] * parameter->width);
     }
-    answer->status = door->bare(argument);
+    answer->status = function(argument);
 }
 
 /* The same status, and everything that is written the same; after a refusal nothing is. */
@@ -44,43 +42,44 @@ static int same(const struct door *door, const struct given *given, unsigned sha
     if (apart->status != shared->status) return 0;
     for (unsigned i = 0; i < door->count; i++) {
         const struct parameter *parameter = &door->parameter[i];
+        const size_t bytes = given->count[i] * parameter->width;
         if (apart->status == 0) {
-            if ((parameter->kind == MADE || parameter->kind == KEPT) &&
-                memcmp(apart->buffer[i].word, shared->buffer[i].word, parameter->count * parameter->width) != 0)
-                return 0;
-        } else if (is_buffer(parameter->kind)) {
-            const uint32_t *word = shared->buffer[sharing >> i & 1 ? with : i].word;
-            if (parameter->kind != MADE && memcmp(word, given->word[i], given->count[i] * 4) != 0) return 0;
-            if (parameter->kind == MADE && i != with)
-                for (size_t n = 0; n < parameter->count * parameter->width / 4; n++)
-                    if (word[n] != FILLER) return 0;
+            if (is_written(parameter) && memcmp(apart->room[i].byte, shared->room[i].byte, bytes) != 0) return 0;
+        } else if (is_buffer(parameter)) {
+            const union room *room = &shared->room[sharing >> i & 1 ? with : i];
+            if (parameter->way != MADE && memcmp(room->byte, given->room[i].byte, bytes) != 0) return 0;
+            if (parameter->way == MADE && i != with)
+                for (size_t n = 0; n < (bytes + 3) / 4; n++)
+                    if (room->word[n] != FILLER) return 0;
         }
     }
     return 1;
 }
 
 /* How many inputs come out otherwise. */
-static unsigned long differing(int number, const struct door *door, unsigned sharing, unsigned with, unsigned long turns)
+static unsigned long differing(const struct door *door, unsigned sharing, unsigned with, unsigned long turns)
 {
     static struct given given;
     static struct answer apart, shared;
     unsigned long count = 0;
     for (unsigned long turn = 0; turn < turns; turn++) {
-        struct random random = random_of(1, (uint64_t)number, turn);
+        struct random random = random_of(1, door, turn);
         if (turn % 2) make_damaged(door, &random, &given);
         else make_valid(door, &random, &given);
         /* what is given in one array starts alike */
-        const unsigned given_here = sharing | (door->parameter[with].kind != MADE ? 1u << with : 0);
+        const unsigned given_here = sharing | (door->parameter[with].way != MADE ? 1u << with : 0);
         unsigned longest = MOST;
         for (unsigned i = 0; i < door->count; i++) {
             if (given_here >> i & 1 && (longest == MOST || given.count[i] > given.count[longest])) longest = i;
             /* a length that no buffer has is no case of this */
-            if (door->parameter[i].kind == LENGTH) given.value[i].size = given.count[i - 1];
+            if (door->parameter[i].many == LENGTH) given.value[i].size = given.count[i - 1];
         }
         for (unsigned i = 0; i < door->count; i++)
-            if (given_here >> i & 1 && i != longest) memcpy(given.word[i], given.word[longest], given.count[i] * 4);
-        ask(door, &given, 0, 0, &apart);
-        ask(door, &given, sharing, with, &shared);
+            if (given_here >> i & 1 && i != longest)
+                memcpy(given.room[i].byte, given.room[longest].byte, given.count[i] * sizeof(float));
+        ask(door, door->bare, &given, 0, 0, &apart);
+        /* both forms, each over valid and over damaged inputs */
+        ask(door, turn / 2 % 2 ? door->bare : door->safe, &given, sharing, with, &shared);
         if (!same(door, &given, sharing, with, &apart, &shared)) count++;
     }
     return count;
@@ -88,11 +87,10 @@ static unsigned long differing(int number, const struct door *door, unsigned sha
 
 static int is_float_array(const struct parameter *parameter)
 {
-    static const char *const whole[] = {"index", "lag", "converged"};
-    for (size_t n = 0; n < sizeof whole / sizeof *whole; n++)
-        if (strcmp(parameter->name, whole[n]) == 0) return 0;
-    return is_buffer(parameter->kind) && parameter->width == 4;
+    return is_buffer(parameter) && parameter->element == F32;
 }
+
+static int is_input(const struct parameter *parameter) { return is_read(parameter) && is_float_array(parameter); }
 
 /* A door that writes while it still reads: interpolate_lsp with its lines turned about. */
 static uint32_t hasty(const union argument *argument)
@@ -107,16 +105,16 @@ static int misses_planted(unsigned long turns)
 {
     const int number = door_named("interpolate_lsp");
     struct door door = doors[number];
-    door.bare = hasty;
-    const unsigned long count = differing(number, &door, 1u << 1, 3, turns);
+    door.bare = door.safe = hasty;
+    const unsigned long count = differing(&door, 1u << 1, 3, turns);
     printf("planted: writes while it reads: differs on %lu of %lu inputs%s\n", count, turns, count ? "" : ": NOT SEEN");
     return count == 0;
 }
 
 int main(int words, char **word)
 {
-    static const char help[] = "alias [N]: calls with an input in the same array as another buffer, N inputs for each pair\n"
-                               "(default 4000), and with all inputs in one array with each other buffer.\n"
+    static const char help[] = "alias [N]: calls with an input that starts where another buffer starts, N inputs for each\n"
+                               "pair (default 4000), and with all inputs where each other buffer starts.\n"
                                "Exit status: 0 the bits are those of buffers apart; 1 not; 2 bad usage.\n";
     unsigned long turns = 4000;
     if (words == 2 && (strcmp(word[1], "--help") == 0 || strcmp(word[1], "-h") == 0)) return fputs(help, stdout), 0;
@@ -135,11 +133,11 @@ int main(int words, char **word)
             for (unsigned one = 0; one <= door->count; one++) {
                 /* each input alone, and at last all of them */
                 const int last = one == door->count;
-                if (!last && (one == with || !is_read(door->parameter[one].kind))) continue;
+                if (!last && (one == with || !is_input(&door->parameter[one]))) continue;
                 const unsigned sharing = last ? every : 1u << one;
                 every |= sharing;
                 if (last && (every & (every - 1)) == 0) continue; /* none, or the one that was tried */
-                const unsigned long count = differing(number, door, sharing, with, turns);
+                const unsigned long count = differing(door, sharing, with, turns);
                 ways++;
                 if (count == 0) continue;
                 faults++;

@@ -4,7 +4,10 @@
 
 #include <stddef.h>
 
-enum { SLOTS = 11, SLOT_BYTES = 8192 };
+#include "inputs.h"
+
+/* One for each parameter. */
+enum { SLOTS = MOST, SLOT_BYTES = ROOM_BYTES };
 
 /* Where a buffer lies: its end at the inaccessible page behind it, or its start at the one before it. */
 enum layout { AT_END, AT_START };

@@ -14,8 +14,11 @@ static const size_t sizes[] = {0,   1,   2,   3,   4,   5,   144, 145,          
                                205, 206, 264, 265, 266, 324, 325, 326,          385,          1988,          1989,
                                SIZE_MAX, SIZE_MAX - 59, SIZE_MAX - 60, SIZE_MAX - 144, SIZE_MAX / 2, SIZE_MAX / 120};
 
-static const uint32_t numbers[] = {0,   1,   17,  18,         19,         60,         141,       142,       143,
-                                   144, 145, 146, 0x7fffffff, 0x80000000, 0xffffffff, 0xfffffff, 0x1000000, 66051};
+static const uint32_t numbers[] = {
+    0,   1,     2,      3,      7,       8,     9,          17,         18,         19,
+    60,  141,   142,    143,    144,     145,   146,        255,        256,        359,
+    360, 361,   0x7fff, 0x8000, 0xffff,  66051, 0x7fffffff, 0x80000000, 0xffffffff, 0xfffffff,
+    0xffffff, 0x1000000};
 
 /* Zeros, the least and greatest subnormal and normal numbers, powers, bounds of the refusals and what lies beside them,
  * infinities, quiet and signalling NaNs. */
@@ -32,44 +35,98 @@ static uint32_t limit(struct random *random)
     return random_below(random, 8) == 0 ? PICK(random, unfit) : PICK(random, singles);
 }
 
-/* Makes the samples longer, by repeating them, or shorter. */
-static void set_length(struct given *given, unsigned at, size_t length)
+/* Puts a limit of its kind into an element. A double is a single's limit, or a double's own bits; of a struct each byte
+ * is set by itself. */
+static void put_limit(const struct parameter *parameter, struct random *random, struct given *given, unsigned at, size_t n,
+                      uint32_t single)
 {
-    for (size_t n = given->count[at]; n < length; n++) given->word[at][n] = given->word[at][n - given->count[at]];
+    static const unsigned char bytes[] = {0, 1, 0x7f, 0x80, 0xff};
+    unsigned char *const place = given->room[at].byte + n * parameter->width;
+    const double twice = single_of(single);
+    const uint64_t own = (uint64_t)single << 32 | single;
+    switch (parameter->element) {
+    case F32: memcpy(place, &single, sizeof single); return;
+    case F64: memcpy(place, random_below(random, 2) ? (const void *)&twice : (const void *)&own, sizeof twice); return;
+    case U8:
+    case I16:
+    case U16:
+    case I32:
+    case U32:
+    case SIZE: {
+        const uint64_t number = parameter->element == SIZE ? PICK(random, sizes) : PICK(random, numbers);
+        memcpy(place, &number, parameter->width);
+        return;
+    }
+    case STRUCT:
+        for (size_t i = 0; i < parameter->width; i++) place[i] = PICK(random, bytes);
+        return;
+    }
+}
+
+/* Makes a slice longer, by repeating it, or shorter. */
+static void set_length(const struct parameter *parameter, struct given *given, unsigned at, size_t length)
+{
+    unsigned char *const byte = given->room[at].byte;
+    const size_t had = given->count[at] * parameter->width;
+    if (length * parameter->width > ROOM_BYTES) length = ROOM_BYTES / parameter->width;
+    for (size_t n = had; n < length * parameter->width; n++) byte[n] = had ? byte[n - had] : 0;
     given->count[at] = length;
     given->value[at + 1].size = length;
+}
+
+/* Whether a door refuses a slice that is longer by one element: then it refuses every other length before it reads. */
+static int is_exact(const struct door *door, unsigned at)
+{
+    static struct given given;
+    static union room made[MOST];
+    static int known[DOORS][MOST]; /* 1 no, 2 yes */
+    const int number = door_named(door->name);
+    if (known[number][at]) return known[number][at] == 2;
+    struct random random = random_of(1, door, 0);
+    union argument argument[MOST];
+    make_valid(door, &random, &given);
+    set_length(&door->parameter[at], &given, at, given.count[at] + 1);
+    lay_out(door, &given, made, argument);
+    known[number][at] = doors[number].bare(argument) != 0 ? 2 : 1;
+    return known[number][at] == 2;
 }
 
 /* A length no memory has, in a call that is refused before a sample is read. */
 static void set_huge(const struct door *door, struct random *random, struct given *given, unsigned at)
 {
-    set_length(given, at, 0);
+    const int half = parameter_of(door, HALF), pitch = parameter_of(door, PITCH_LAG);
+    if (half < 0 && pitch < 0 && !is_exact(door, at)) return;
+    set_length(&door->parameter[at], given, at, 0);
     given->value[at + 1].size = PICK(random, huge);
-    for (unsigned i = 0; i < door->count; i++) {
-        if (door->parameter[i].role == HALF) given->value[i].size = 2 + random_below(random, 9);
-        if (door->parameter[i].role == PITCH) given->value[i].number = random_below(random, 2) ? 17 : 143;
-    }
+    if (half >= 0) given->value[half].size = 2 + random_below(random, 9);
+    if (pitch >= 0) given->value[pitch].number = random_below(random, 2) ? 17 : 143;
 }
 
 static void disturb_value(const struct parameter *parameter, struct random *random, union argument *value)
 {
-    if (parameter->kind == SIZE) value->size = PICK(random, sizes);
-    if (parameter->kind == NUMBER) value->number = PICK(random, numbers);
-    if (parameter->kind == SINGLE) value->single = single_of(limit(random));
+    switch (parameter->element) {
+    case SIZE: value->size = PICK(random, sizes); return;
+    case U8:
+    case U16:
+    case U32: value->number = PICK(random, numbers); return;
+    case I16:
+    case I32: value->sign = (int32_t)PICK(random, numbers); return;
+    case F32: value->single = single_of(limit(random)); return;
+    case F64: value->twice = single_of(limit(random)); return;
+    case STRUCT: return;
+    }
 }
 
+/* Flips one bit of an element, or of a value. */
 static void flip(const struct parameter *parameter, struct random *random, struct given *given, unsigned at)
 {
-    if (is_buffer(parameter->kind)) {
+    const size_t bit = random_below(random, 8 * (size_t)parameter->width);
+    unsigned char *byte = (unsigned char *)&given->value[at];
+    if (is_buffer(parameter)) {
         if (given->count[at] == 0) return;
-        given->word[at][random_below(random, given->count[at])] ^= 1u << random_below(random, 32);
-    } else if (parameter->kind == SIZE) {
-        given->value[at].size ^= (size_t)1 << random_below(random, 64);
-    } else if (parameter->kind == NUMBER) {
-        given->value[at].number ^= 1u << random_below(random, 32);
-    } else if (parameter->kind == SINGLE) {
-        given->value[at].single = single_of(word_of(given->value[at].single) ^ 1u << random_below(random, 32));
+        byte = given->room[at].byte + random_below(random, given->count[at]) * parameter->width;
     }
+    byte[bit / 8] ^= (unsigned char)(1u << bit % 8);
 }
 
 void make_damaged(const struct door *door, struct random *random, struct given *given)
@@ -79,26 +136,34 @@ void make_damaged(const struct door *door, struct random *random, struct given *
     const size_t way = random_below(random, WAYS);
     for (unsigned i = 0; i < door->count; i++) {
         const struct parameter *parameter = &door->parameter[i];
-        if (parameter->kind == MADE || parameter->kind == LENGTH) continue;
-        if (parameter->kind == SAMPLES && random_below(random, 4) == 0) set_length(given, i, PICK(random, lengths));
-        for (size_t n = 0; n < given->count[i]; n++) {
-            if (way == LIMITS) given->word[i][n] = PICK(random, singles);
-            if (way == RANDOM) given->word[i][n] = random_bits(random);
+        if (parameter->many == SLICE && random_below(random, 4) == 0) {
+            /* beside the length that is enough, or any */
+            const size_t beside = parameter->count + 1 - random_below(random, 3);
+            set_length(parameter, given, i, random_below(random, 2) ? beside : PICK(random, lengths));
+        }
+        if (parameter->way == MADE || parameter->many == LENGTH) continue;
+        if (!is_buffer(parameter)) {
+            if (way != VALID && random_below(random, 3) == 0) disturb_value(parameter, random, &given->value[i]);
+            continue;
+        }
+        for (size_t n = 0; n < given->count[i] && way == LIMITS; n++)
+            put_limit(parameter, random, given, i, n, PICK(random, singles));
+        for (size_t n = 0; n < given->count[i] * parameter->width && way == RANDOM; n += 4) {
+            const uint32_t bits = random_bits(random);
+            memcpy(given->room[i].byte + n, &bits, sizeof bits);
         }
         if ((way == LIMITS || way == RANDOM) && given->count[i] > 0 && random_below(random, 4) == 0)
-            given->word[i][random_below(random, given->count[i])] = limit(random);
-        if (!is_buffer(parameter->kind) && way != VALID && random_below(random, 3) == 0)
-            disturb_value(parameter, random, &given->value[i]);
+            put_limit(parameter, random, given, i, random_below(random, given->count[i]), limit(random));
     }
     for (size_t n = way == FLIPPED || way == ONE_LIMIT ? 1 + random_below(random, 8) : 0; n > 0; n--) {
         const unsigned at = (unsigned)random_below(random, door->count);
         const struct parameter *parameter = &door->parameter[at];
-        if (parameter->kind == MADE || parameter->kind == LENGTH) continue;
+        if (parameter->way == MADE || parameter->many == LENGTH) continue;
         if (way == FLIPPED) flip(parameter, random, given, at);
-        else if (is_buffer(parameter->kind) && given->count[at] > 0)
-            given->word[at][random_below(random, given->count[at])] = limit(random);
+        else if (is_buffer(parameter) && given->count[at] > 0)
+            put_limit(parameter, random, given, at, random_below(random, given->count[at]), limit(random));
     }
     /* last, so that nothing makes the call valid again */
     for (unsigned i = 0; i < door->count; i++)
-        if (door->parameter[i].kind == SAMPLES && random_below(random, 64) == 0) set_huge(door, random, given, i);
+        if (door->parameter[i].many == SLICE && random_below(random, 64) == 0) set_huge(door, random, given, i);
 }

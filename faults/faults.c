@@ -18,7 +18,7 @@
 
 /* ---- what is under way, for the report */
 
-enum form { BARE, GUARDED };
+enum form { BARE, SAFE };
 static const char *const layout_names[] = {"end at the page", "start at the page"};
 
 static struct {
@@ -36,10 +36,11 @@ static int told = STDOUT_FILENO;
 static void report(const char *what)
 {
     char line[512];
+    const int bare = at.form == BARE && at.door->bare != at.door->safe;
     const int length = snprintf(line, sizeof line,
                                 "FAULT: g7231_%s%s: %s; layout: %s; seed %llu, turn %llu\n"
                                 "again: faults --seed %llu --only %s --turn %llu\n",
-                                at.form == GUARDED ? "guarded_" : "", at.door->name, what, layout_names[at.layout],
+                                bare ? "bare_" : "", at.door->name, what, layout_names[at.layout],
                                 (unsigned long long)at.seed, (unsigned long long)at.turn, (unsigned long long)at.seed,
                                 at.door->name, (unsigned long long)at.turn);
     if (write(told, line, (size_t)length) != length) _exit(3);
@@ -103,14 +104,12 @@ struct place {
 };
 static struct place places[MOST];
 
-static void lay_out(const struct given *given, struct random *random, union argument argument[MOST])
+static void lay_out_fenced(const struct given *given, struct random *random, union argument argument[MOST])
 {
     for (unsigned i = 0; i < at.door->count; i++) {
         const struct parameter *parameter = &at.door->parameter[i];
-        if (!is_buffer(parameter->kind)) {
-            argument[i] = given->value[i];
-            continue;
-        }
+        argument[i] = given->value[i];
+        if (!is_buffer(parameter)) continue;
         struct place *place = &places[i];
         place->bytes = given->count[i] * parameter->width;
         /* an empty buffer stands at the page, so that reading even its first element is seen */
@@ -120,13 +119,13 @@ static void lay_out(const struct given *given, struct random *random, union argu
         place->to = place->offset + place->bytes + BESIDE;
         if (place->to > SLOT_BYTES) place->to = SLOT_BYTES;
         unsigned char *const own = arena_own((int)i);
-        for (size_t n = place->from; n < place->to; n += 4) {
+        for (size_t n = place->from / 4 * 4; n < place->to; n += 4) {
             const uint32_t word = fragile[random_below(random, sizeof fragile / sizeof *fragile)];
             memcpy(own + n, &word, 4);
         }
-        if (parameter->kind != MADE) memcpy(own + place->offset, given->word[i], place->bytes);
+        if (parameter->way != MADE) memcpy(own + place->offset, given->room[i].byte, place->bytes);
         memcpy(place->before + place->from, own + place->from, place->to - place->from);
-        argument[i].place = arena_seen((int)i, at.layout == AT_START && is_read(parameter->kind)) + place->offset;
+        argument[i].place = arena_seen((int)i, at.layout == AT_START && is_read(parameter)) + place->offset;
     }
 }
 
@@ -138,13 +137,13 @@ static int moved(const struct place *place, const unsigned char *own, size_t fro
 static void look(uint32_t status)
 {
     char what[160];
-    if (status > 7) {
+    if (status >= STATUSES) {
         snprintf(what, sizeof what, "answered %lu, which is no status", (unsigned long)status);
         report(what);
     }
     for (unsigned i = 0; i < at.door->count; i++) {
         const struct parameter *parameter = &at.door->parameter[i];
-        if (!is_buffer(parameter->kind)) continue;
+        if (!is_buffer(parameter)) continue;
         const struct place *place = &places[i];
         const unsigned char *own = arena_own((int)i);
         const size_t end = place->offset + place->bytes;
@@ -152,7 +151,7 @@ static void look(uint32_t status)
         if (moved(place, own, place->from, place->offset) || moved(place, own, end, place->to))
             snprintf(what, sizeof what, "wrote outside %s", parameter->name);
         else if (!moved(place, own, place->offset, end)) continue;
-        else if (is_read(parameter->kind))
+        else if (is_read(parameter))
             snprintf(what, sizeof what, "altered %s, which is only read", parameter->name);
         else if (status != 0)
             snprintf(what, sizeof what, "refused with %lu and altered %s", (unsigned long)status, parameter->name);
@@ -164,7 +163,7 @@ static void look(uint32_t status)
 struct answer {
     uint32_t status;
     size_t bytes;
-    unsigned char byte[2048];
+    unsigned char byte[MOST * SLOT_BYTES];
 };
 
 static void keep(uint32_t status, struct answer *answer)
@@ -172,8 +171,7 @@ static void keep(uint32_t status, struct answer *answer)
     answer->status = status;
     answer->bytes = 0;
     for (unsigned i = 0; i < at.door->count; i++) {
-        const enum kind kind = at.door->parameter[i].kind;
-        if (status != 0 || (kind != MADE && kind != KEPT)) continue;
+        if (status != 0 || !is_written(&at.door->parameter[i])) continue;
         memcpy(answer->byte + answer->bytes, arena_own((int)i) + places[i].offset, places[i].bytes);
         answer->bytes += places[i].bytes;
     }
@@ -182,22 +180,22 @@ static void keep(uint32_t status, struct answer *answer)
 /* ---- turns */
 
 struct tally {
-    uint64_t turns, status[8];
+    uint64_t turns, status[STATUSES];
 };
 
-static void turn(int number, const struct door *door, struct tally *tally)
+static void turn(const struct door *door, struct tally *tally)
 {
     static struct given given;
     static struct answer first, other;
     union argument argument[MOST];
-    struct random random = random_of(at.seed, (uint64_t)number, at.turn);
+    struct random random = random_of(at.seed, door, at.turn);
     at.door = door;
     make_damaged(door, &random, &given);
     for (int i = 0; i < 4; i++) {
         at.layout = i / 2 == 0 ? AT_END : AT_START;
-        at.form = i % 2 == 0 ? BARE : GUARDED;
-        lay_out(&given, &random, argument);
-        call *const function = at.form == BARE ? door->bare : door->guarded;
+        at.form = i % 2 == 0 ? BARE : SAFE;
+        lay_out_fenced(&given, &random, argument);
+        call *const function = at.form == BARE ? door->bare : door->safe;
         at.calling = 1;
         const uint32_t status = function(argument);
         at.calling = 0;
@@ -229,9 +227,9 @@ static int seen(const struct planted *plant)
         struct tally tally = {0};
         told = pipes[1];
         door.bare = plant->function;
-        if (plant->both) door.guarded = plant->function;
+        if (plant->both) door.safe = plant->function;
         set_timer(2);
-        for (at.turn = 0; at.turn < 2000; at.turn++) turn(number, &door, &tally);
+        for (at.turn = 0; at.turn < 2000; at.turn++) turn(&door, &tally);
         _exit(0);
     }
     close(pipes[1]);
@@ -260,29 +258,34 @@ static int run_planted(void)
 
 /* ---- the run */
 
-/* The refusals of each door, which a run of some length must have met, in the table's order. */
-static const char *const refusals[DOORS] = {"15", "57", "5", "56", "56", "56", "56", "5",
-                                            "5",  "5",  "15", "125", "345", "45", "45"};
-
+/* A run of some length must have met every refusal that the header has for a door, and no other. */
 enum { ENOUGH = 1000 };
+
+static int is_due(const struct door *door, uint32_t status)
+{
+    if (status == 0) return 1;
+    for (const uint32_t *refusal = door->refusal; *refusal; refusal++)
+        if (*refusal == status) return 1;
+    return 0;
+}
 
 static int summary(const struct tally tally[DOORS], double seconds)
 {
     int missed = 0;
     uint64_t calls = 0;
     printf("%-28s %12s %12s", "door", "turns", "done");
-    for (int i = 1; i < 8; i++) printf(" %11s%d", "refused ", i);
+    for (int i = 1; i < STATUSES; i++) printf(" %10s%2d", "refused ", i);
     printf("\n");
     for (int number = 0; number < DOORS; number++) {
         const struct tally *t = &tally[number];
         if (t->turns == 0) continue;
         calls += 4 * t->turns;
         printf("%-28s %12llu", doors[number].name, (unsigned long long)t->turns);
-        for (int i = 0; i < 8; i++) printf(" %12llu", (unsigned long long)t->status[i]);
+        for (int i = 0; i < STATUSES; i++) printf(" %12llu", (unsigned long long)t->status[i]);
         printf("\n");
         if (t->turns < ENOUGH) continue;
-        for (int i = 0; i < 8; i++) {
-            const int due = i == 0 || strchr(refusals[number], '0' + i) != NULL;
+        for (int i = 0; i < STATUSES; i++) {
+            const int due = is_due(&doors[number], (uint32_t)i);
             if (due == (t->status[i] > 0)) continue;
             printf("FAILED: %s: %s with %d\n", doors[number].name, due ? "no call ended" : "a call ended", i);
             missed++;
@@ -296,7 +299,7 @@ static const char help[] =
     "faults: every buffer of every door against an inaccessible page\n\n"
     "  faults [--seed S] [--count N] [--minutes M] [--only DOOR] [--turn T]\n"
     "  faults --planted        faulty doors, each of which must be reported\n\n"
-    "A turn makes one set of inputs for each door and calls it four times: bare and guarded, each buffer with its end at\n"
+    "A turn makes one set of inputs for each door and calls it four times: bare and safe form, each buffer with its end at\n"
     "an inaccessible page and with its start at one (there what is only read cannot be written). N turns (default 2000),\n"
     "or turns for M minutes; --turn makes one turn again. The same seed makes the same turns.\n"
     "A call that touches other memory, does not come back, alters what it only reads, alters anything when it refuses, or\n"
@@ -364,7 +367,7 @@ int main(int words, char **word)
             }
         }
         for (int number = 0; number < DOORS; number++)
-            if (only < 0 || only == number) turn(number, &doors[number], &tally[number]);
+            if (only < 0 || only == number) turn(&doors[number], &tally[number]);
     }
     set_timer(0);
     return summary(tally, now() - began);

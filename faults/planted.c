@@ -97,6 +97,6 @@ const struct planted planted[PLANTED] = {
     {"alters an input", "lsp_to_lpc", alters_input, 1, "altered lsp, which is only read"},
     {"writes an input as it was", "lsp_to_lpc", borrows_input, 1, "buffer lsp, start at the page"},
     {"reads what it is to write", "lsp_to_lpc", reads_answer, 1, "another answer"},
-    {"guarded is not bare", "lsp_to_lpc", answers_otherwise, 0, "another answer"},
+    {"safe is not bare", "lsp_to_lpc", answers_otherwise, 0, "another answer"},
     {"loops for ever", "lsp_to_lpc", loops, 1, "did not come back"},
 };

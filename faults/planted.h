@@ -2,14 +2,14 @@
 #ifndef PLANTED_H
 #define PLANTED_H
 
-#include "doors.h"
+#include "door.h"
 
 struct planted {
     const char *name;
     const char *instead_of; /* the door */
     call *function;         /* in place of the bare form */
-    int both;               /* and of the guarded one */
-    const char *reported; /* what the report must say */
+    int both;               /* and of the safe one */
+    const char *reported;   /* what the report must say */
 };
 
 enum { PLANTED = 11 };

@@ -1,11 +1,15 @@
 #include "inputs.h"
 
+#include <stdio.h>
+#include <stdlib.h>
 #include <string.h>
 
-struct random random_of(uint64_t seed, uint64_t door, uint64_t turn)
+struct random random_of(uint64_t seed, const struct door *door, uint64_t turn)
 {
     struct random random = {seed};
-    random.state = random_next(&random) ^ door * 0xd1342543de82ef95u;
+    uint64_t name = 0;
+    for (const char *c = door->name; *c; c++) name = name * 31 + (unsigned char)*c;
+    random.state = random_next(&random) ^ name * 0xd1342543de82ef95u;
     random.state = random_next(&random) ^ turn * 0xd1342543de82ef95u;
     return random;
 }
@@ -28,7 +32,7 @@ double random_between(struct random *random, double a, double b)
 }
 
 /* Pulses a period apart and some noise through two resonances. */
-static void speech(struct random *random, uint32_t *word, size_t count)
+static void speech(struct random *random, double *out, size_t count)
 {
     const size_t period = 18 + random_below(random, 125);
     const double noise = random_between(random, 0, 0.5);
@@ -47,7 +51,7 @@ static void speech(struct random *random, uint32_t *word, size_t count)
             y[i][1] = y[i][0];
             y[i][0] = x;
         }
-        word[n] = word_of((float)(level * x));
+        out[n] = level * x;
     }
 }
 
@@ -78,59 +82,145 @@ static void rising(struct random *random, double a, double b, double line[10])
     }
 }
 
-static void fill(const struct parameter *parameter, struct random *random, uint32_t *word, size_t count)
+/* What a role asks for, as numbers. There is no default: the compiler names a role that has no maker. */
+static void make_numbers(enum role role, struct random *random, double *x, size_t count)
 {
-    double x[11], power = 1;
-    switch (parameter->role) {
-    case SPEECH:
-        speech(random, word, count);
-        return;
-    case FILTER:
-        filter(random, x);
-        for (size_t i = 0; i < count; i++) word[i] = word_of((float)x[i]);
-        return;
+    double ten[11], power = 1;
+    switch (role) {
+    case SPEECH: speech(random, x, count); return;
+    case FILTER: filter(random, ten); break;
     case TAPS: {
-        filter(random, x);
+        double all[11];
+        filter(random, all);
         const double gamma = random_between(random, 0.4, 1);
-        for (size_t i = 0; i < count; i++) {
+        for (int i = 0; i < 10; i++) {
             power *= gamma;
-            word[i] = word_of((float)(x[i + 1] * power));
+            ten[i] = all[i + 1] * power;
         }
-        return;
+        ten[10] = 0;
+        break;
     }
-    case COSINES:
-        rising(random, -1, 1, x);
-        for (size_t i = 0; i < count; i++) word[i] = word_of((float)x[9 - i]);
-        return;
-    default: /* FREQUENCIES */
-        rising(random, 0, 32768, x);
-        for (size_t i = 0; i < count; i++) word[i] = word_of((float)x[i]);
+    case COSINES: {
+        double lines[10];
+        rising(random, -1, 1, lines);
+        for (int i = 0; i < 10; i++) ten[i] = lines[9 - i];
+        ten[10] = 0;
+        break;
+    }
+    case FREQUENCIES:
+        rising(random, 0, 32768, ten);
+        ten[10] = 0;
+        break;
+    case INDEX: x[0] = random_bits(random); return;
+    case SPACING: x[0] = random_between(random, 0, 400); return;
+    case CHOICE: x[0] = (double)random_below(random, 5); return;
+    case HALF: x[0] = (double)random_below(random, 2); return;
+    case PLACE: x[0] = (double)(145 + random_below(random, 181)); return;
+    case PITCH_LAG: x[0] = (double)(18 + random_below(random, 125)); return;
+    case LAG: x[0] = (double)(18 + random_below(random, 128)); return;
+    case FACTOR: x[0] = random_between(random, 0, 0.3125); return;
+    case ANY:
+    case NONE: return;
+    }
+    /* a longer buffer has the same ten again */
+    for (size_t i = 0; i < count; i++) x[i] = ten[i % (role == FILTER ? 11 : 10)];
+}
+
+static double held(double x, double low, double high) { return x < low ? low : x > high ? high : x; }
+
+void put_number(const struct parameter *parameter, union room *room, size_t at, double x)
+{
+    union {
+        uint8_t u8;
+        int16_t i16;
+        uint16_t u16;
+        int32_t i32;
+        uint32_t u32;
+        size_t size;
+        float single;
+        double twice;
+    } as;
+    switch (parameter->element) {
+    case U8: as.u8 = (uint8_t)held(x, 0, UINT8_MAX); break;
+    case I16: as.i16 = (int16_t)held(x, INT16_MIN, INT16_MAX); break;
+    case U16: as.u16 = (uint16_t)held(x, 0, UINT16_MAX); break;
+    case I32: as.i32 = (int32_t)held(x, INT32_MIN, INT32_MAX); break;
+    case U32: as.u32 = (uint32_t)held(x, 0, UINT32_MAX); break;
+    case SIZE: as.size = (size_t)held(x, 0, UINT32_MAX); break;
+    case F32: as.single = (float)x; break;
+    case F64: as.twice = x; break;
+    case STRUCT: return;
+    }
+    memcpy(room->byte + at * parameter->width, &as, parameter->width);
+}
+
+void put_value(const struct parameter *parameter, union argument *value, double x)
+{
+    switch (parameter->element) {
+    case U8:
+    case U16:
+    case U32: value->number = (uint32_t)held(x, 0, UINT32_MAX); return;
+    case I16:
+    case I32: value->sign = (int32_t)held(x, INT32_MIN, INT32_MAX); return;
+    case SIZE: value->size = (size_t)held(x, 0, UINT32_MAX); return;
+    case F32: value->single = (float)x; return;
+    case F64: value->twice = x; return;
+    case STRUCT: return;
     }
 }
 
-static void choose(const struct parameter *parameter, struct random *random, union argument *value)
+/* Any bits: of each byte of a buffer, and of a value. */
+static void make_any(const struct parameter *parameter, struct random *random, struct given *given, unsigned i)
 {
-    memset(value, 0, sizeof *value);
-    switch (parameter->role) {
-    case INDEX: value->number = random_bits(random); return;
-    case SPACING: value->single = (float)random_between(random, 0, 400); return;
-    case CHOICE: value->size = random_below(random, 5); return;
-    case HALF: value->size = random_below(random, 2); return;
-    case PLACE: value->size = 145 + random_below(random, 181); return;
-    case PITCH: value->number = (uint32_t)(18 + random_below(random, 125)); return;
-    case LAG: value->number = (uint32_t)(18 + random_below(random, 128)); return;
-    case FACTOR: value->single = (float)random_between(random, 0, 0.3125); return;
-    default: return;
-    }
+    const size_t bytes = given->count[i] * parameter->width;
+    if (is_buffer(parameter))
+        for (size_t n = 0; n < bytes; n++) given->room[i].byte[n] = (unsigned char)random_bits(random);
+    else given->value[i].size = (size_t)random_next(random);
 }
 
 void make_valid(const struct door *door, struct random *random, struct given *given)
 {
+    static double x[ROOM_BYTES];
     for (unsigned i = 0; i < door->count; i++) {
         const struct parameter *parameter = &door->parameter[i];
-        given->count[i] = parameter->count;
-        if (parameter->kind == LENGTH) given->value[i].size = given->count[i - 1];
-        else if (!is_buffer(parameter->kind)) choose(parameter, random, &given->value[i]);
-        else if (parameter->kind != MADE) fill(parameter, random, given->word[i], given->count[i]);
+        memset(&given->value[i], 0, sizeof given->value[i]);
+        given->count[i] = is_buffer(parameter) ? parameter->count : 0;
+        if (given->count[i] * parameter->width > ROOM_BYTES) {
+            fprintf(stderr, "%s of g7231_%s: no room: enlarge ROOM_BYTES in guard/inputs.h\n", parameter->name, door->name);
+            exit(3);
+        }
+        if (parameter->many == LENGTH) {
+            given->value[i].size = given->count[i - 1];
+        } else if (parameter->role == ANY) {
+            make_any(parameter, random, given, i);
+        } else if (parameter->way != MADE) {
+            const size_t count = is_buffer(parameter) ? given->count[i] : 1;
+            make_numbers(parameter->role, random, x, count);
+            for (size_t n = 0; n < count && is_buffer(parameter); n++) put_number(parameter, &given->room[i], n, x[n]);
+            if (!is_buffer(parameter)) put_value(parameter, &given->value[i], x[0]);
+        }
     }
+}
+
+void lay_out(const struct door *door, struct given *given, union room made[MOST], union argument argument[MOST])
+{
+    for (unsigned i = 0; i < door->count; i++) {
+        const struct parameter *parameter = &door->parameter[i];
+        argument[i] = given->value[i];
+        if (is_buffer(parameter)) argument[i].place = parameter->way == MADE ? made[i].byte : given->room[i].byte;
+    }
+}
+
+int parameter_of(const struct door *door, enum role role)
+{
+    for (unsigned i = 0; i < door->count; i++)
+        if (door->parameter[i].role == role) return (int)i;
+    return -1;
+}
+
+int door_named(const char *name)
+{
+    for (int i = 0; i < DOORS; i++)
+        if (strcmp(doors[i].name, name) == 0) return i;
+    return -1;
 }

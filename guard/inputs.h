@@ -2,31 +2,49 @@
 #ifndef INPUTS_H
 #define INPUTS_H
 
-#include "doors.h"
+#include "table.h"
 
 /* Numbers that a seed fixes (splitmix64). */
 struct random {
     uint64_t state;
 };
 
-/* A stream of its own for each seed, door and turn, so that any turn can be made again alone. */
-struct random random_of(uint64_t seed, uint64_t door, uint64_t turn);
+/* A stream of its own for each seed, door and turn, so that any turn can be made again alone, whatever doors there are
+ * besides. */
+struct random random_of(uint64_t seed, const struct door *door, uint64_t turn);
 uint64_t random_next(struct random *random);
 uint32_t random_bits(struct random *random);
 size_t random_below(struct random *random, size_t n);
 double random_between(struct random *random, double a, double b);
 
-enum { LONGEST = 2048 };
+/* Room for a buffer, aligned for any element. */
+enum { ROOM_BYTES = 16384 };
+union room {
+    double align;
+    uint32_t word[ROOM_BYTES / 4]; /* the bits of singles */
+    unsigned char byte[ROOM_BYTES];
+};
 
-/* The inputs of one call: the words of each buffer that is read, and the values. */
+/* The inputs of one call: the elements of each buffer that is read, and the values. */
 struct given {
     size_t count[MOST];
-    uint32_t word[MOST][LONGEST];
+    union room room[MOST];
     union argument value[MOST];
 };
 
 /* A call as a coder makes it: speech, stable filters, ordered lines. */
 void make_valid(const struct door *door, struct random *random, struct given *given);
+
+/* The arguments of a call on the inputs where they stand; what is only written goes to `made`. */
+void lay_out(const struct door *door, struct given *given, union room made[MOST], union argument argument[MOST]);
+
+/* Puts a number into an element, or a value, of any kind but a struct; a whole number is held within the kind's range. */
+void put_number(const struct parameter *parameter, union room *room, size_t at, double x);
+void put_value(const struct parameter *parameter, union argument *value, double x);
+
+/* A parameter by its role, or a door by its name without g7231_; -1 where there is none. */
+int parameter_of(const struct door *door, enum role role);
+int door_named(const char *name);
 
 static inline uint32_t word_of(float x)
 {

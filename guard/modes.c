@@ -1,5 +1,5 @@
-/* The thread's floating-point mode is a hidden input of the doors: shows that it changes the bits of the bare ones and
- * not of the guarded ones. `modes --help` says how to call it; guard/run builds and runs it. */
+/* The thread's floating-point mode is a hidden input of the doors: shows that it changes the bits of the bare forms and
+ * not of the safe ones. `modes --help` says how to call it; guard/run builds and runs it. */
 #define _POSIX_C_SOURCE 200809L
 
 #include <signal.h>
@@ -43,51 +43,46 @@ static const struct mode modes[] = {
 };
 enum { MODES = sizeof modes / sizeof modes[0] };
 
-/* What a call made: its status and the words of everything that it was lent. */
+/* What a call made: its status and the bytes of everything that it may write. */
 struct answer {
     uint32_t status;
-    size_t words;
-    uint32_t word[400];
+    size_t bytes;
+    unsigned char byte[MOST * ROOM_BYTES];
 };
 
 /* Calls a door on copies of its inputs in the mode; answers the mode word as it stood after the call. */
 static unsigned ask(const struct door *door, call *function, const struct given *given, unsigned mode,
                     struct answer *answer)
 {
-    static union {
-        double align;
-        uint32_t word[LONGEST];
-    } store[MOST];
+    static union room store[MOST];
     union argument argument[MOST];
     for (unsigned i = 0; i < door->count; i++) {
         const struct parameter *parameter = &door->parameter[i];
-        if (!is_buffer(parameter->kind)) {
-            argument[i] = given->value[i];
-            continue;
-        }
-        argument[i].place = store[i].word;
-        if (parameter->kind == MADE) memset(store[i].word, 0, parameter->count * parameter->width);
-        else memcpy(store[i].word, given->word[i], given->count[i] * 4);
+        argument[i] = given->value[i];
+        if (!is_buffer(parameter)) continue;
+        argument[i].place = store[i].byte;
+        if (parameter->way == MADE) memset(store[i].byte, 0, given->count[i] * parameter->width);
+        else memcpy(store[i].byte, given->room[i].byte, given->count[i] * parameter->width);
     }
     _mm_setcsr(mode);
     const uint32_t status = function(argument);
     const unsigned after = _mm_getcsr();
     _mm_setcsr(DEFAULT);
     answer->status = status;
-    answer->words = 0;
+    answer->bytes = 0;
     for (unsigned i = 0; i < door->count; i++) {
         const struct parameter *parameter = &door->parameter[i];
-        if (parameter->kind != MADE && parameter->kind != KEPT) continue;
-        const size_t words = parameter->count * parameter->width / 4;
-        memcpy(answer->word + answer->words, store[i].word, words * 4);
-        answer->words += words;
+        if (!is_written(parameter)) continue;
+        const size_t bytes = given->count[i] * parameter->width;
+        memcpy(answer->byte + answer->bytes, store[i].byte, bytes);
+        answer->bytes += bytes;
     }
     return after;
 }
 
 static int same(const struct answer *a, const struct answer *b)
 {
-    return a->status == b->status && a->words == b->words && memcmp(a->word, b->word, a->words * 4) == 0;
+    return a->status == b->status && a->bytes == b->bytes && memcmp(a->byte, b->byte, a->bytes) == 0;
 }
 
 /* Multiplies by a power of two, rounding to a single once. */
@@ -104,27 +99,28 @@ static uint32_t scaled(uint32_t word, int exponent)
 static void make_telling(int number, uint64_t turn, struct given *given)
 {
     const struct door *door = &doors[number];
-    struct random random = random_of(1, (uint64_t)number, turn);
+    struct random random = random_of(1, door, turn);
     make_valid(door, &random, given);
     const unsigned variant = turn % 8;
     for (unsigned i = 0; i < door->count; i++) {
         const struct parameter *parameter = &door->parameter[i];
-        if (parameter->kind == MADE || !is_buffer(parameter->kind)) continue;
+        if (!is_buffer(parameter) || parameter->way == MADE || parameter->element != F32) continue;
         for (size_t n = 0; n < given->count[i]; n++) {
-            uint32_t *word = &given->word[i][n];
+            uint32_t *word = &given->room[i].word[n];
             if (variant == 1) *word = scaled(*word, -140);
             if (variant == 2 && random_below(&random, 2)) *word = scaled(*word, -135);
             if (variant == 3) *word = scaled(*word, -64);
             if (variant == 4 && parameter->role == SPEECH)
-                *word = scaled(*word, parameter->kind != SAMPLES || n < 240 ? 0 : -132);
+                *word = scaled(*word, parameter->many != SLICE || n < 240 ? 0 : -132);
             if (variant == 5) *word = scaled(*word, 110);
         }
-        if (variant == 6) given->word[i][random_below(&random, given->count[i])] = 0x7fa00001;
+        if (variant == 6) given->room[i].word[random_below(&random, given->count[i])] = 0x7fa00001;
     }
-    if (variant == 4 && strcmp(door->name, "harmonic_noise_shaping") == 0) {
-        given->value[2].size = 240;
-        given->value[3].number = 60;
-        for (size_t n = 240; n < 300; n++) given->word[0][n] = scaled(given->word[0][n - 60], -132);
+    const int place = parameter_of(door, PLACE), pitch = parameter_of(door, PITCH_LAG);
+    if (variant == 4 && place >= 0 && pitch >= 0 && door->parameter[0].role == SPEECH) {
+        put_value(&door->parameter[place], &given->value[place], 240);
+        put_value(&door->parameter[pitch], &given->value[pitch], 60);
+        for (size_t n = 240; n < 300; n++) given->room[0].word[n] = scaled(given->room[0].word[n - 60], -132);
     }
     if (variant == 7) make_tie(door, &random, given);
 }
@@ -170,18 +166,18 @@ static void fault(const struct mode *mode, int number, uint64_t turn, const char
         printf("\nFAILED: %s, %s, input %llu: %s\n", mode->name, doors[number].name, (unsigned long long)turn, what);
 }
 
-/* How many of the inputs show a mode through the bare door; the guarded one is held to the default mode's bits. */
+/* How many of the inputs show a mode through the bare form; the safe one is held to the default mode's bits. */
 static unsigned shown(const struct mode *mode, int number, uint64_t turns)
 {
     static struct given given;
-    static struct answer wanted, bare, guarded;
+    static struct answer wanted, bare, safe;
     const struct door *door = &doors[number];
     unsigned count = 0;
     for (uint64_t turn = 0; turn < turns; turn++) {
         if (mode->kind == STOPS) {
             if (stopped(number, door->bare, mode, turn, 0) == 1) count++;
-            const int end = stopped(number, door->guarded, mode, turn, 1);
-            if (end) fault(mode, number, turn, end == 1 ? "the guarded door was stopped" : "the guarded door changed");
+            const int end = stopped(number, door->safe, mode, turn, 1);
+            if (end) fault(mode, number, turn, end == 1 ? "the safe form was stopped" : "the safe form changed");
             continue;
         }
         make_telling(number, turn, &given);
@@ -190,9 +186,9 @@ static unsigned shown(const struct mode *mode, int number, uint64_t turns)
         if (!same(&wanted, &bare)) count++;
         for (unsigned flags = 0; flags <= FLAGS; flags += FLAGS) {
             const unsigned word = mode->word | flags;
-            if (ask(door, door->guarded, &given, word, &guarded) != word)
-                fault(mode, number, turn, "the guarded door left another mode word");
-            if (!same(&wanted, &guarded)) fault(mode, number, turn, "the guarded door's answer changed");
+            if (ask(door, door->safe, &given, word, &safe) != word)
+                fault(mode, number, turn, "the safe form left another mode word");
+            if (!same(&wanted, &safe)) fault(mode, number, turn, "the safe form's answer changed");
         }
     }
     return count;
@@ -200,14 +196,15 @@ static unsigned shown(const struct mode *mode, int number, uint64_t turns)
 
 static int run(uint64_t turns, uint64_t stops)
 {
-    printf("Inputs whose answer a mode changes, or on which it stops the program, through the bare door;\n"
+    printf("Inputs whose answer a mode changes, or on which it stops the program, through the bare form;\n"
            "of %llu (%llu where exceptions stop).\n\n%-28s",
            (unsigned long long)turns, (unsigned long long)stops, "");
     for (int m = 0; m < MODES; m++) printf(" %5s", modes[m].brief);
     printf("\n");
-    unsigned by_mode[MODES] = {0};
+    unsigned by_mode[MODES] = {0}, with_bare = 0;
     for (int number = 0; number < DOORS; number++) {
         printf("%-28s", doors[number].name);
+        with_bare += doors[number].bare != doors[number].safe;
         for (int m = 0; m < MODES; m++) {
             const unsigned count = shown(&modes[m], number, modes[m].kind == STOPS ? stops : turns);
             by_mode[m] += count != 0;
@@ -218,14 +215,14 @@ static int run(uint64_t turns, uint64_t stops)
     }
     printf("\n");
     for (int m = 0; m < MODES; m++) {
-        printf("%-16s MXCSR 0x%04x: shows through %u of %d bare doors\n", modes[m].name, modes[m].word, by_mode[m],
-               DOORS);
+        printf("%-16s MXCSR 0x%04x: shows through %u of %u bare forms\n", modes[m].name, modes[m].word, by_mode[m],
+               with_bare);
         if ((by_mode[m] == 0) == (modes[m].kind == DEFAULT_ITSELF)) continue;
         printf("FAILED: %s\n", by_mode[m] ? "it is the mode of the answers" : "so this test shows nothing");
         faults++;
     }
     if (faults) printf("%d failures\n", faults);
-    else printf("every guarded door kept its bits and the host's mode word in every mode\n");
+    else printf("every safe form kept its bits and the host's mode word in every mode\n");
     return faults ? 1 : 0;
 }
 
@@ -247,22 +244,14 @@ static int by_size(const void *a, const void *b)
     return (x > y) - (x < y);
 }
 
-/* Lays one valid call out; the memory that a door moves on keeps moving. */
-static void lay_out(int number, union argument argument[MOST])
+/* One valid call; the memory that a door moves on keeps moving. */
+static void make_call(int number, union argument argument[MOST])
 {
     static struct given given;
-    static union {
-        double align[16];
-        uint32_t word[64];
-    } made[MOST];
-    struct random random = random_of(1, (uint64_t)number, 0);
+    static union room made[MOST];
+    struct random random = random_of(1, &doors[number], 0);
     make_valid(&doors[number], &random, &given);
-    for (unsigned i = 0; i < doors[number].count; i++) {
-        const enum kind kind = doors[number].parameter[i].kind;
-        if (kind == MADE) argument[i].place = made[i].word;
-        else if (is_buffer(kind)) argument[i].place = given.word[i];
-        else argument[i] = given.value[i];
-    }
+    lay_out(&doors[number], &given, made, argument);
 }
 
 static double median_of(double time[BATCHES])
@@ -278,12 +267,12 @@ static int cost(const char *counts)
         perror(counts);
         return 1;
     }
-    printf("| door | bare | guarded | the guard | no flag set | instructions |\n|---|---|---|---|---|---|\n");
+    printf("| door | bare | safe | the guard | no flag set | instructions |\n|---|---|---|---|---|---|\n");
     for (int number = 0; number < DOORS; number++) {
         static double time[3][BATCHES];
         union argument argument[MOST];
-        lay_out(number, argument);
-        call *side[3] = {doors[number].bare, doors[number].guarded, doors[number].guarded};
+        make_call(number, argument);
+        call *side[3] = {doors[number].bare, doors[number].safe, doors[number].safe};
         double began = now();
         for (int n = 0; n < 200; n++) side[n % 2](argument);
         /* batches of about 20 microseconds, the sides in turn */
@@ -297,12 +286,12 @@ static int cost(const char *counts)
                 time[s][batch] = (now() - began) / calls;
             }
         }
-        const double bare = median_of(time[0]), guarded = median_of(time[1]), other = median_of(time[2]);
+        const double bare = median_of(time[0]), safe = median_of(time[1]), other = median_of(time[2]);
         long instructions[2];
         char said[64] = "-";
         if (file && fscanf(file, "%ld %ld", &instructions[0], &instructions[1]) == 2)
             snprintf(said, sizeof said, "%ld + %ld", instructions[0], instructions[1] - instructions[0]);
-        printf("| %s | %.1f ns | %.1f ns | %.1f ns | %.1f ns | %s |\n", doors[number].name, bare, guarded, guarded - bare,
+        printf("| %s | %.1f ns | %.1f ns | %.1f ns | %.1f ns | %s |\n", doors[number].name, bare, safe, safe - bare,
                other - bare, said);
         fflush(stdout);
     }
@@ -313,12 +302,12 @@ static int cost(const char *counts)
 static const char help[] =
     "modes: the doors under hostile floating-point modes\n\n"
     "  modes [--count N]           N inputs for each door and mode (default 400), N / 10 where exceptions stop\n"
-    "  modes --cost [FILE]         the time of a call, bare and guarded in turn, medians of 301 batches, and what the\n"
+    "  modes --cost [FILE]         the time of a call, bare and safe in turn, medians of 301 batches, and what the\n"
     "                              guard adds, where the host has computed something before and where no flag is set.\n"
     "                              FILE has each door's two counts of instructions, in the table's order\n"
-    "  modes --calls DOOR SIDE N   N calls of a door, bare or guarded, for a tool that counts\n"
+    "  modes --calls DOOR SIDE N   N calls of a door, bare or safe, for a tool that counts\n"
     "  modes --list                the doors\n\n"
-    "Exit status: 0 every mode shows through a bare door and through no guarded one; 1 not; 2 bad usage.\n";
+    "Exit status: 0 every mode shows through a bare form and through no safe one; 1 not; 2 bad usage.\n";
 
 int main(int words, char **word)
 {
@@ -342,10 +331,10 @@ int main(int words, char **word)
     if (words == 5 && strcmp(word[1], "--calls") == 0) {
         const int number = door_named(word[2]), bare = strcmp(word[3], "bare") == 0;
         const long count = strtol(word[4], &end, 10);
-        if (number >= 0 && (bare || strcmp(word[3], "guarded") == 0) && count >= 0 && *end == 0) {
+        if (number >= 0 && (bare || strcmp(word[3], "safe") == 0) && count >= 0 && *end == 0) {
             union argument argument[MOST];
-            lay_out(number, argument);
-            call *function = bare ? doors[number].bare : doors[number].guarded;
+            make_call(number, argument);
+            call *function = bare ? doors[number].bare : doors[number].safe;
             for (long n = 0; n < count; n++) function(argument);
             return 0;
         }

@@ -2,12 +2,17 @@
 
 #include <string.h>
 
+/* The first whole number that a door answers, with one sample of its first buffer replaced. */
 static uint32_t lag_with(const struct door *door, struct given *given, size_t at, double sample)
 {
+    union argument argument[MOST];
+    static union room made[MOST];
     uint32_t lag = 0;
-    given->word[0][at] = word_of((float)sample);
-    const union argument argument[] = {{.place = given->word[0]}, given->value[1], given->value[2], {.place = &lag}};
+    given->room[0].word[at] = word_of((float)sample);
+    lay_out(door, given, made, argument);
     door->bare(argument);
+    for (unsigned i = 0; i < door->count; i++)
+        if (door->parameter[i].way == MADE && door->parameter[i].element == U32) lag = made[i].word[0];
     return lag;
 }
 
@@ -23,30 +28,30 @@ static int halve(const struct door *door, struct given *given, size_t at, double
         if (lag_with(door, given, at, middle) == lag) low = middle;
         else high = middle;
     }
-    given->word[0][at] = word_of((float)(side ? high : low));
+    given->room[0].word[at] = word_of((float)(side ? high : low));
     return 1;
 }
 
 void make_tie(const struct door *door, struct random *random, struct given *given)
 {
     if (strcmp(door->name, "open_loop_pitch") != 0) return;
-    const size_t start = 145 + 120 * given->value[2].size;
+    const size_t start = 145 + 120 * given->value[parameter_of(door, HALF)].size;
     double most = 0;
     for (size_t n = 0; n < start; n++) {
-        const double x = single_of(given->word[0][n]);
+        const double x = single_of(given->room[0].word[n]);
         if (x > most) most = x;
     }
     /* a loud sample brings the lags together, a quiet one has steps fine enough for the last bits */
     for (int tries = 0; tries < 1000; tries++) {
         const size_t loud = start - 1 - random_below(random, 60), quiet = start - 1 - random_below(random, 60);
         if (loud == quiet) continue;
-        const uint32_t before = given->word[0][loud], other = given->word[0][quiet];
-        given->word[0][quiet] = 0;
+        const uint32_t before = given->room[0].word[loud], other = given->room[0].word[quiet];
+        given->room[0].word[quiet] = 0;
         const double reach = random_between(random, 0.1, 4) * most;
         if (halve(door, given, loud, single_of(before), single_of(before) + reach, 0) &&
             halve(door, given, quiet, -most / 1024, most / 1024, (int)random_below(random, 2)))
             return;
-        given->word[0][loud] = before;
-        given->word[0][quiet] = other;
+        given->room[0].word[loud] = before;
+        given->room[0].word[quiet] = other;
     }
 }

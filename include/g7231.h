@@ -1,16 +1,29 @@
-/* Analysis stages of a G.723.1 speech coder.
+/* Analysis stages of a G.723.1 speech coder, for x86-64.
  *
- * Every function answers a status: 0 is done, any other number is a refusal.
- * A refused call leaves every buffer that it was lent as it was, bit for bit.
- * Checks are made in the order in which a function's refusals are listed.
- * Buffers have the lengths written here, may not overlap and may not be null,
- * but for this: a buffer that is only read (const) may start where another one
- * starts, since a door has made its whole answer before it writes. The proofs
- * take buffers apart; that this holds is tested.
- * The calling thread's floating-point mode must be IEEE's default: round to
- * nearest, no flushing of subnormals, exceptions masked. Where that is not sure,
- * call the guarded forms at the end of this file.
- * Link libg7231.a (./install writes it).
+ * Status. Every function but g7231_refusal answers a status: G7231_DONE, or why
+ * it refused. A refused call has had no effect: every buffer that it was lent is
+ * as it was, bit for bit. Checks are made in the order in which a function's
+ * refusals are listed here; the first that fails gives the status.
+ *
+ * Floating-point mode. Whatever mode the calling thread is in, the bits are the
+ * same, and the mode word (MXCSR, flags included) is afterwards what it was. A
+ * host that is sure of IEEE's default mode may call the bare forms, which do not
+ * look at it: g7231_bare.h has them.
+ *
+ * Threads and memory. Every function is reentrant: nothing is kept between calls
+ * and nothing is allocated, so any threads may call at once, as long as no one
+ * writes a buffer that another call has. A call takes less than 16 KB of stack.
+ *
+ * Buffers have the lengths written here and may not be null. Buffers of one call
+ * may not overlap, but for this: buffers of floats that are only read (const) may
+ * start exactly where one other buffer of floats starts, one of them or all of
+ * them. The proofs take buffers as apart; that this holds is tested.
+ *
+ * Words after `Takes:`, up to the comma, say what a parameter holds in a sound
+ * call; no function asks for more than its refusals say. What is `moved on` is
+ * read and then written for the next call. Parameters not listed are answers.
+ *
+ * Compile and link with `pkg-config --cflags --libs g7231`.
  */
 #ifndef G7231_H
 #define G7231_H
@@ -22,8 +35,21 @@
 extern "C" {
 #endif
 
+#define G7231_VERSION "0.2.0"
+
 enum {
-    G7231_DONE = 0,
+    G7231_ORDER = 10,    /* lines of a set, taps of a filter, values of its memory */
+    G7231_FILTER = 11,   /* coefficients of a filter, the leading 1 among them */
+    G7231_LAG_MIN = 18,  /* the shortest pitch lag */
+    G7231_SUBFRAME = 60, /* samples of a subframe */
+    G7231_LAG_MAX = 142, /* the longest pitch lag */
+    G7231_PAST = 145,    /* samples that are looked back on */
+    G7231_WINDOW = 180,  /* samples of a window of linear prediction */
+    G7231_FRAME = 240    /* samples of a frame */
+};
+
+enum {
+    G7231_DONE = 0,        /* done */
     G7231_LENGTH = 1,      /* a list of another length than asked for */
     G7231_CHOICE = 2,      /* no such choice */
     G7231_PLACE = 3,       /* a place with too few samples around it */
@@ -33,109 +59,169 @@ enum {
     G7231_NO_LINE_SET = 7  /* the filter has no set of ten line frequencies */
 };
 
-/* Linear prediction of one window of 180 samples: coefficients, sums of the
- * autocorrelation, and the second reflection.
- * Refuses: 1 unless len is 180; 5. */
-uint32_t g7231_lpc_analysis(const float *window, size_t len, float a[11], double r[11], float *k2);
+/* What a status means, in words; never null. */
+const char *g7231_refusal(uint32_t status);
+
+/* Linear prediction of one window: the filter, the sums of its autocorrelation,
+ * and the second reflection.
+ * Takes:
+ *   window: speech, 180 samples
+ * Refuses:
+ *   1 G7231_LENGTH: len is not 180
+ *   5 G7231_NOT_FINITE: any of the samples */
+uint32_t g7231_lpc_analysis(const float *window, size_t len, float a[G7231_FILTER], double r[G7231_FILTER], float *k2);
 
 /* The line spectral pairs of a filter, as ten cosines that fall strictly.
- * Refuses: 5; 7 where the filter has no such set. */
-uint32_t g7231_lpc_to_lsp(const float a[11], float lsp[10]);
+ * Takes:
+ *   a: filter
+ * Refuses:
+ *   5 G7231_NOT_FINITE: any of the coefficients, a[0] included
+ *   7 G7231_NO_LINE_SET: the filter has no such ten; take the last frame's */
+uint32_t g7231_lpc_to_lsp(const float a[G7231_FILTER], float lsp[G7231_ORDER]);
 
 /* Ten line cosines to frequencies, 0 to 32,768 over half a circle. A cosine
  * outside -1..1 counts as the nearer of the two.
- * Refuses: 5. */
-uint32_t g7231_lsp_cosines_to_freq(const float cosines[10], float freq[10]);
+ * Takes:
+ *   cosines: cosines
+ * Refuses:
+ *   5 G7231_NOT_FINITE: any of the cosines */
+uint32_t g7231_lsp_cosines_to_freq(const float cosines[G7231_ORDER], float freq[G7231_ORDER]);
 
 /* Ten line frequencies to cosines.
- * Refuses: 5; 6 above 65,536 in magnitude. */
-uint32_t g7231_lsp_freq_to_cosines(const float freq[10], float cosines[10]);
+ * Takes:
+ *   freq: frequencies
+ * Refuses:
+ *   5 G7231_NOT_FINITE: any of the frequencies
+ *   6 G7231_MAGNITUDE: any of them above 65,536 in magnitude */
+uint32_t g7231_lsp_freq_to_cosines(const float freq[G7231_ORDER], float cosines[G7231_ORDER]);
+
+/* The line frequencies that both ends of a line start from, as the set before the
+ * first. Has no bare form.
+ * Refuses: nothing */
+uint32_t g7231_resting_set(float set[G7231_ORDER]);
 
 /* Quantises ten line frequencies after the previous set: a 24-bit index, and
  * the set that the decoder makes of it, bit for bit.
- * Refuses: 5 in either set; 6 above 65,536 in magnitude in either. */
-uint32_t g7231_quantise_lsp_freq(const float p[10], const float prev[10], uint32_t *index, float set[10]);
+ * Takes:
+ *   p: frequencies
+ *   prev: frequencies, the last call's set, or the resting set
+ * Refuses:
+ *   5 G7231_NOT_FINITE: any of either set
+ *   6 G7231_MAGNITUDE: any of either set above 65,536 in magnitude */
+uint32_t g7231_quantise_lsp_freq(const float p[G7231_ORDER], const float prev[G7231_ORDER], uint32_t *index,
+                                 float set[G7231_ORDER]);
 
-/* The set of an index after the previous set. Bits above 24 are ignored.
- * Refuses: 5, then 6, on the previous set. */
-uint32_t g7231_decode_lsp_freq(uint32_t index, const float prev[10], float set[10]);
+/* The set of an index after the previous set.
+ * Takes:
+ *   index: index, of which the bits above 24 are ignored
+ *   prev: frequencies, the last call's set, or the resting set
+ * Refuses:
+ *   5 G7231_NOT_FINITE: any of the previous set
+ *   6 G7231_MAGNITUDE: any of it above 65,536 in magnitude */
+uint32_t g7231_decode_lsp_freq(uint32_t index, const float prev[G7231_ORDER], float set[G7231_ORDER]);
 
 /* Lines at least a spacing apart, in at most ten passes; *converged is 1 where
  * a pass met no pair too close, else 0.
- * Refuses: 5; 6 for a spacing outside 0..400 Hz. */
-uint32_t g7231_enforce_lsp_stability(const float cosines[10], float spacing_hz, float out[10], uint32_t *converged);
+ * Takes:
+ *   cosines: cosines
+ *   spacing_hz: spacing, 0 to 400 Hz
+ * Refuses:
+ *   5 G7231_NOT_FINITE: any of the cosines, or the spacing
+ *   6 G7231_MAGNITUDE: the spacing below 0 or above 400 */
+uint32_t g7231_enforce_lsp_stability(const float cosines[G7231_ORDER], float spacing_hz, float out[G7231_ORDER],
+                                     uint32_t *converged);
 
-/* The lines of a subframe between the last frame's and this one's: choices 0,
- * 1, 2 weigh 3/4, 1/2, 1/4 of the last; any other choice is this frame's.
- * Refuses: 5. */
-uint32_t g7231_interpolate_lsp(size_t choice, const float prev[10], const float cur[10], float out[10]);
+/* The lines of a subframe between the last frame's and this one's.
+ * Takes:
+ *   choice: choice, where 0, 1, 2 weigh 3/4, 1/2, 1/4 of the last frame's lines
+ *     and any other number is this frame's
+ *   prev, cur: cosines, the last frame's and this one's
+ * Refuses:
+ *   5 G7231_NOT_FINITE: any of either set, whatever the choice */
+uint32_t g7231_interpolate_lsp(size_t choice, const float prev[G7231_ORDER], const float cur[G7231_ORDER],
+                               float out[G7231_ORDER]);
 
 /* The filter of a line set.
- * Refuses: 5. */
-uint32_t g7231_lsp_to_lpc(const float lsp[10], float a[11]);
+ * Takes:
+ *   lsp: cosines
+ * Refuses:
+ *   5 G7231_NOT_FINITE: any of the cosines */
+uint32_t g7231_lsp_to_lpc(const float lsp[G7231_ORDER], float a[G7231_FILTER]);
 
 /* Taps of the perceptual weighting filter: its zeros and its poles.
- * Refuses: 5. */
-uint32_t g7231_weighting_taps(const float a[11], float wz[10], float wp[10]);
+ * Takes:
+ *   a: filter
+ * Refuses:
+ *   5 G7231_NOT_FINITE: any of the coefficients, a[0] included */
+uint32_t g7231_weighting_taps(const float a[G7231_FILTER], float wz[G7231_ORDER], float wp[G7231_ORDER]);
 
-/* One subframe of 60 samples through the weighting filter. Both memories hold
- * ten samples, most recent first, and are moved on.
- * Refuses: 1 unless len is 60; 5. */
-uint32_t g7231_weight_subframe(const float *x, size_t len, const float wz[10], const float wp[10], float x_mem[10],
-                               float f_mem[10], float out[60]);
+/* One subframe through the weighting filter.
+ * Takes:
+ *   x: speech, 60 samples
+ *   wz, wp: taps, zeros and poles
+ *   x_mem, f_mem: speech, moved on; the last ten samples in and out, most recent
+ *     first
+ * Refuses:
+ *   1 G7231_LENGTH: len is not 60
+ *   5 G7231_NOT_FINITE: any float given, memories included */
+uint32_t g7231_weight_subframe(const float *x, size_t len, const float wz[G7231_ORDER], const float wp[G7231_ORDER],
+                               float x_mem[G7231_ORDER], float f_mem[G7231_ORDER], float out[G7231_SUBFRAME]);
 
-/* The pitch lag, 18 to 142, of one half (0 or 1) of a frame that starts at
- * place 145 of the weighted speech.
- * Refuses: 2 for another half; 1 where samples are missing; 5. */
+/* The pitch lag, 18 to 142, of one half of a frame that starts at place 145 of
+ * the weighted speech.
+ * Takes:
+ *   wbuf: speech, 385 samples for either half, 265 for half 0 alone
+ *   half: half, 0 or 1
+ * Refuses:
+ *   2 G7231_CHOICE: half is above 1
+ *   1 G7231_LENGTH: len is below 265 for half 0, below 385 for half 1
+ *   5 G7231_NOT_FINITE: any of the first 265 samples for half 0, of the first 385
+ *     for half 1; later ones are not looked at */
 uint32_t g7231_open_loop_pitch(const float *wbuf, size_t len, size_t half, uint32_t *lag);
 
 /* The lag and the factor of harmonic noise shaping for the subframe at place,
- * around the pitch lag l_ol. Shaping off is lag 18 with factor 0.
- * Refuses: 4 for l_ol outside 18..142; 3 where 145 samples before place or 60
- * from it on are missing; 5. */
+ * around a pitch lag. Shaping off is lag 18 with factor 0.
+ * Takes:
+ *   wbuf: speech, 385 samples of weighted speech hold a frame and its past
+ *   place: place, where the subframe starts
+ *   l_ol: pitch lag, as g7231_open_loop_pitch answers it
+ * Refuses:
+ *   4 G7231_LAG: l_ol is outside 18..142
+ *   3 G7231_PLACE: 145 samples before place, or 60 from it on, are not all there
+ *   5 G7231_NOT_FINITE: any sample from place - 145 to place + 59; others are not
+ *     looked at */
 uint32_t g7231_harmonic_noise_shaping(const float *wbuf, size_t len, size_t place, uint32_t l_ol, uint32_t *lag,
                                       float *beta);
 
-/* One subframe through synthesis, weighting and harmonic filter. The first four
- * buffers are the filter's memory: ten values each, most recent first, and the
- * last 145 harmonic inputs, oldest first; they are moved on.
- * Refuses: 4 for a lag outside 18..145; 5, memory included. */
-uint32_t g7231_run_combined(float syn[10], float wz_mem[10], float wp_mem[10], float p_hist[145], const float input[60],
-                            const float aq[11], const float wz[10], const float wp[10], uint32_t lag, float beta,
-                            float out[60]);
+/* One subframe through synthesis, weighting and harmonic filter.
+ * Takes:
+ *   syn, wz_mem, wp_mem: speech, moved on; ten values each, most recent first
+ *   p_hist: speech, moved on; the last 145 harmonic inputs, oldest first
+ *   input: speech
+ *   aq: filter
+ *   wz, wp: taps, zeros and poles
+ *   lag: lag, 18 to 145
+ *   beta: factor
+ * Refuses:
+ *   4 G7231_LAG: lag is outside 18..145
+ *   5 G7231_NOT_FINITE: any float given, the four memories and beta included */
+uint32_t g7231_run_combined(float syn[G7231_ORDER], float wz_mem[G7231_ORDER], float wp_mem[G7231_ORDER],
+                            float p_hist[G7231_PAST], const float input[G7231_SUBFRAME], const float aq[G7231_FILTER],
+                            const float wz[G7231_ORDER], const float wp[G7231_ORDER], uint32_t lag, float beta,
+                            float out[G7231_SUBFRAME]);
 
 /* The same filter's response to the unit impulse, from rest.
- * Refuses: 4; 5. */
-uint32_t g7231_combined_impulse_response(const float aq[11], const float wz[10], const float wp[10], uint32_t lag,
-                                         float beta, float out[60]);
-
-/* The guarded forms: the same doors for a host whose thread may not be in IEEE's
- * default floating-point mode. Another rounding direction, flush-to-zero or
- * denormals-are-zero changes the bits of the doors above, and an exception that
- * is not masked stops the program in them. Each guarded form saves the mode
- * (MXCSR, status flags included), sets the default, calls its door and puts the
- * saved mode back. Same parameters, answers and refusals. */
-uint32_t g7231_guarded_lpc_analysis(const float *window, size_t len, float a[11], double r[11], float *k2);
-uint32_t g7231_guarded_lpc_to_lsp(const float a[11], float lsp[10]);
-uint32_t g7231_guarded_lsp_cosines_to_freq(const float cosines[10], float freq[10]);
-uint32_t g7231_guarded_lsp_freq_to_cosines(const float freq[10], float cosines[10]);
-uint32_t g7231_guarded_quantise_lsp_freq(const float p[10], const float prev[10], uint32_t *index, float set[10]);
-uint32_t g7231_guarded_decode_lsp_freq(uint32_t index, const float prev[10], float set[10]);
-uint32_t g7231_guarded_enforce_lsp_stability(const float cosines[10], float spacing_hz, float out[10],
-                                             uint32_t *converged);
-uint32_t g7231_guarded_interpolate_lsp(size_t choice, const float prev[10], const float cur[10], float out[10]);
-uint32_t g7231_guarded_lsp_to_lpc(const float lsp[10], float a[11]);
-uint32_t g7231_guarded_weighting_taps(const float a[11], float wz[10], float wp[10]);
-uint32_t g7231_guarded_weight_subframe(const float *x, size_t len, const float wz[10], const float wp[10],
-                                       float x_mem[10], float f_mem[10], float out[60]);
-uint32_t g7231_guarded_open_loop_pitch(const float *wbuf, size_t len, size_t half, uint32_t *lag);
-uint32_t g7231_guarded_harmonic_noise_shaping(const float *wbuf, size_t len, size_t place, uint32_t l_ol, uint32_t *lag,
-                                              float *beta);
-uint32_t g7231_guarded_run_combined(float syn[10], float wz_mem[10], float wp_mem[10], float p_hist[145],
-                                    const float input[60], const float aq[11], const float wz[10], const float wp[10],
-                                    uint32_t lag, float beta, float out[60]);
-uint32_t g7231_guarded_combined_impulse_response(const float aq[11], const float wz[10], const float wp[10],
-                                                 uint32_t lag, float beta, float out[60]);
+ * Takes:
+ *   aq: filter
+ *   wz, wp: taps, zeros and poles
+ *   lag: lag, 18 to 145
+ *   beta: factor
+ * Refuses:
+ *   4 G7231_LAG: lag is outside 18..145
+ *   5 G7231_NOT_FINITE: any float given, beta included */
+uint32_t g7231_combined_impulse_response(const float aq[G7231_FILTER], const float wz[G7231_ORDER],
+                                         const float wp[G7231_ORDER], uint32_t lag, float beta,
+                                         float out[G7231_SUBFRAME]);
 
 #ifdef __cplusplus
 }

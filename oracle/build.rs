@@ -1,39 +1,20 @@
-//! Makes the published Rust callable, and finds out what there is to compare it with.
+//! Makes the published Rust callable, and the library that it is compared with.
 //!
 //! - The Rust: tables.rs, spec_tables.rs and spec_lsp.rs are taken whole, the items of `ITEMS` are cut out of
 //!   encoder.rs by matching braces. `published` has their text as it stands. `ruled` has the same text with each
 //!   call of cos, acos and log10 replaced by document 01's rule (`CALLS`). Both are written to cargo's output
 //!   folder alone.
-//! - The doors: which of the fifteen stand in include/g7231.h, each held to the prototype that this package calls, and its
-//!   guarded form to the same parameters.
-//! - The library: the archive that the programs link.
+//! - The doors: `doors/make` prints their bindings and their table from include/g7231.h.
+//! - The library: the archive that ./install wrote.
 //!
-//! Variables: G7231_RUST names the folder that holds src/encoder.rs, G7231_LIBRARY the archive. One that is named
-//! and missing fails the build; a default that is missing is reported by the programs.
+//! Variables: G7231_RUST names the folder that holds src/encoder.rs, G7231_FOLDER the one that ./install wrote. One that
+//! is named and missing fails the build, and so does a library that is nowhere; where the Rust's default folder is
+//! missing the programs say so.
 
 use std::env;
 use std::fs;
 use std::path::{Path, PathBuf};
-use std::process::exit;
-
-/// Each operation's prototype, in document 01's order: an operation's number is its place here, from 1.
-const PROTOTYPES: [&str; 15] = [
-    "uint32_t g7231_lpc_analysis(const float *window, size_t len, float a[11], double r[11], float *k2);",
-    "uint32_t g7231_lpc_to_lsp(const float a[11], float lsp[10]);",
-    "uint32_t g7231_lsp_cosines_to_freq(const float cosines[10], float freq[10]);",
-    "uint32_t g7231_lsp_freq_to_cosines(const float freq[10], float cosines[10]);",
-    "uint32_t g7231_quantise_lsp_freq(const float p[10], const float prev[10], uint32_t *index, float set[10]);",
-    "uint32_t g7231_decode_lsp_freq(uint32_t index, const float prev[10], float set[10]);",
-    "uint32_t g7231_enforce_lsp_stability(const float cosines[10], float spacing_hz, float out[10], uint32_t *converged);",
-    "uint32_t g7231_interpolate_lsp(size_t choice, const float prev[10], const float cur[10], float out[10]);",
-    "uint32_t g7231_lsp_to_lpc(const float lsp[10], float a[11]);",
-    "uint32_t g7231_weighting_taps(const float a[11], float wz[10], float wp[10]);",
-    "uint32_t g7231_weight_subframe(const float *x, size_t len, const float wz[10], const float wp[10], float x_mem[10], float f_mem[10], float out[60]);",
-    "uint32_t g7231_open_loop_pitch(const float *wbuf, size_t len, size_t half, uint32_t *lag);",
-    "uint32_t g7231_harmonic_noise_shaping(const float *wbuf, size_t len, size_t place, uint32_t l_ol, uint32_t *lag, float *beta);",
-    "uint32_t g7231_run_combined(float syn[10], float wz_mem[10], float wp_mem[10], float p_hist[145], const float input[60], const float aq[11], const float wz[10], const float wp[10], uint32_t lag, float beta, float out[60]);",
-    "uint32_t g7231_combined_impulse_response(const float aq[11], const float wz[10], const float wp[10], uint32_t lag, float beta, float out[60]);",
-];
+use std::process::{exit, Command};
 
 /// What is cut out of encoder.rs.
 const ITEMS: [&str; 19] = [
@@ -99,11 +80,9 @@ fn main() {
     let out = PathBuf::from(env::var("OUT_DIR").unwrap());
     let top = here.parent().unwrap_or(&here);
     println!("cargo::rerun-if-changed=build.rs");
-    let mut facts = String::new();
-    doors(top, &mut facts);
-    library(top, &mut facts);
-    rust(top, &here, &out, &mut facts);
-    write(&out.join("found.rs"), &facts);
+    doors(top, &out);
+    library(top);
+    rust(top, &here, &out);
 }
 
 fn fail(why: &str) -> ! {
@@ -128,71 +107,44 @@ fn place(variable: &str, default: PathBuf) -> (PathBuf, bool) {
     }
 }
 
-/// Reads the header: a door has landed where its name stands there.
-fn doors(top: &Path, facts: &mut String) {
-    let path = top.join("include/g7231.h");
-    println!("cargo::rerun-if-changed={}", path.display());
-    let header = plain(&read(&path));
-    let mut landed = Vec::new();
-    for prototype in PROTOTYPES {
-        let name = prototype.split(['(', ' ']).nth(1).unwrap();
-        let short = name.trim_start_matches("g7231_");
-        println!("cargo::rustc-check-cfg=cfg(door_{short})");
-        let here = header.contains(&format!("{name}("));
-        if here {
-            // each door has a guarded form with the same parameters
-            for wanted in [prototype.to_string(), prototype.replace("g7231_", "g7231_guarded_")] {
-                if !header.contains(&plain(&wanted)) {
-                    fail(&format!("{}: a prototype of {name} is not\n  {wanted}", path.display()));
-                }
-            }
-            println!("cargo::rustc-cfg=door_{short}");
+/// Writes the module of the doors: their types, their bindings and their table.
+fn doors(top: &Path, out: &Path) {
+    for name in ["doors", "include/g7231.h"] {
+        println!("cargo::rerun-if-changed={}", top.join(name).display());
+    }
+    let mut text = read(&top.join("doors/door.rs"));
+    for what in ["rust", "rust-table"] {
+        let make = top.join("doors/make");
+        match Command::new(&make).arg(what).output() {
+            Ok(said) if said.status.success() => text += &String::from_utf8_lossy(&said.stdout),
+            Ok(said) => fail(&format!("doors/make {what}: {}", String::from_utf8_lossy(&said.stderr).trim_end())),
+            Err(why) => fail(&format!("{}: {why}", make.display())),
         }
-        landed.push(here);
     }
-    let listed = landed.iter().filter(|l| **l).count();
-    if header.matches("uint32_t g7231_").count() != 2 * listed {
-        fail(&format!("{}: it has a function that is none of the fifteen, bare or guarded", path.display()));
-    }
-    *facts +=
-        &format!("/// Which of the fifteen doors stand in the header.\npub const LANDED: [bool; 15] = {landed:?};\n");
+    write(&out.join("doors.rs"), &text);
 }
 
-/// C text with no comment and single spaces.
-fn plain(text: &str) -> String {
-    let mut kept = String::new();
-    let mut rest = text;
-    while let Some(start) = rest.find("/*") {
-        kept += &rest[..start];
-        let end = rest[start..].find("*/").unwrap_or_else(|| fail("include/g7231.h: a comment has no end"));
-        rest = &rest[start + end + 2..];
+/// Has the programs link the archive, and those of packages that take this one.
+fn library(top: &Path) {
+    let (folder, named) = place("G7231_FOLDER", top.join("target/g7231"));
+    let archive = folder.join("lib/libg7231.a");
+    println!("cargo::rerun-if-changed={}", archive.display());
+    if !archive.is_file() {
+        let why = if named { "G7231_FOLDER names that folder" } else { "./install makes it" };
+        fail(&format!("there is no {}: {why}", archive.display()));
     }
-    kept += rest;
-    kept.split_whitespace().collect::<Vec<_>>().join(" ")
-}
-
-/// Has the programs link the archive, where it is.
-fn library(top: &Path, facts: &mut String) {
-    println!("cargo::rustc-check-cfg=cfg(library)");
-    let (path, named) = place("G7231_LIBRARY", top.join("target/staticlib/libc_api.a"));
-    println!("cargo::rerun-if-changed={}", path.display());
-    let there = path.is_file();
-    if named && !there {
-        fail(&format!("G7231_LIBRARY names {}, which is no file", path.display()));
+    // A door of other parameters than the header's would be called all the same.
+    let installed = folder.join("include/g7231.h");
+    println!("cargo::rerun-if-changed={}", installed.display());
+    if read(&installed) != read(&top.join("include/g7231.h")) {
+        fail(&format!("{} is not include/g7231.h: ./install writes both it and the library", installed.display()));
     }
-    if there {
-        println!("cargo::rustc-cfg=library");
-        println!("cargo::rustc-link-arg={}", path.display());
-    }
-    *facts += &format!("/// Whether the programs are linked with the library.\npub const LIBRARY: bool = {there};\n");
-    *facts += &format!(
-        "/// Where the library was looked for.\npub const LIBRARY_PATH: &str = {:?};\n",
-        path.display().to_string()
-    );
+    println!("cargo::rustc-link-search=native={}", folder.join("lib").display());
+    println!("cargo::rustc-link-lib=static=g7231");
 }
 
 /// Writes the modules `tables`, `spec_tables`, `published` and `ruled`, where the Rust's source is.
-fn rust(top: &Path, here: &Path, out: &Path, facts: &mut String) {
+fn rust(top: &Path, here: &Path, out: &Path) {
     println!("cargo::rustc-check-cfg=cfg(rust)");
     let (folder, named) = place("G7231_RUST", top.join("../shared/docs/src"));
     println!("cargo::rerun-if-changed={}", folder.display());
@@ -200,10 +152,7 @@ fn rust(top: &Path, here: &Path, out: &Path, facts: &mut String) {
     if named && !there {
         fail(&format!("G7231_RUST names {}, which has no src/encoder.rs", folder.display()));
     }
-    *facts += &format!(
-        "/// Where the Rust's source was looked for.\npub const RUST_PATH: &str = {:?};\n",
-        folder.display().to_string()
-    );
+    println!("cargo::rustc-env=RUST_PATH={}", folder.display());
     if !there {
         return;
     }

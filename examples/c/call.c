@@ -9,10 +9,13 @@
 
 #include "g7231.h"
 
-enum { FRAME = 240, SUBFRAME = 60, WINDOW = 180, PAST = 145, WEIGHTED = PAST + FRAME };
-
-/* What the line frequencies rest at: both ends begin with it. */
-static const float resting[10] = {3131, 4721, 7690, 10806, 13872, 16495, 19752, 22260, 25484, 27718};
+enum {
+    LINES = G7231_ORDER,
+    FRAME = G7231_FRAME,
+    SUBFRAME = G7231_SUBFRAME,
+    PAST = G7231_PAST,
+    WEIGHTED = PAST + FRAME
+};
 
 /* ---- hashes of what was answered (FNV-1a, 64 bits, low byte first) */
 
@@ -30,7 +33,7 @@ static void hash(uint64_t *of, const void *what, size_t bytes)
 static void done(uint32_t status, const char *door)
 {
     if (status == G7231_DONE) return;
-    fprintf(stderr, "call: %s refused with %" PRIu32 "\n", door, status);
+    fprintf(stderr, "call: %s refused: %s\n", door, g7231_refusal(status));
     exit(1);
 }
 #define DONE(door, arguments) done(door arguments, #door)
@@ -38,23 +41,23 @@ static void done(uint32_t status, const char *door)
 /* ---- both ends */
 
 struct coder {
-    float set[10];   /* line frequencies of the last frame, as the decoder has them */
-    float found[10]; /* line cosines of the last frame, not quantised */
-    float lines[10]; /* line cosines of the last frame, quantised */
-    float x_mem[10], f_mem[10];
+    float set[LINES];   /* line frequencies of the last frame, as the decoder has them */
+    float found[LINES]; /* line cosines of the last frame, not quantised */
+    float lines[LINES]; /* line cosines of the last frame, quantised */
+    float x_mem[LINES], f_mem[LINES];
     float weighted[WEIGHTED]; /* weighted speech: 145 samples of the past, then the frame */
-    float syn[10], wz_mem[10], wp_mem[10], p_hist[145];
+    float syn[LINES], wz_mem[LINES], wp_mem[LINES], p_hist[PAST];
 };
 
 struct decoder {
-    float set[10];
-    float lines[10];
+    float set[LINES];
+    float lines[LINES];
 };
 
 /* From a set of line frequencies to the lines of the frame: held apart, or else the last frame's. */
-static void settle(const float set[10], float lines[10])
+static void settle(const float set[LINES], float lines[LINES])
 {
-    float cosines[10], apart[10];
+    float cosines[LINES], apart[LINES];
     uint32_t converged;
     DONE(g7231_lsp_freq_to_cosines, (set, cosines));
     DONE(g7231_enforce_lsp_stability, (cosines, 31.25f, apart, &converged));
@@ -67,16 +70,16 @@ static void settle(const float set[10], float lines[10])
 /* Codes the 240 samples at `speech`, which has 60 more before and after them. */
 static uint32_t code(struct coder *coder, const float *speech, uint32_t pitch[2])
 {
-    float a[4][11], wz[4][10], wp[4][10], freq[10], last[10], set[10], lsp[10];
+    float a[4][G7231_FILTER], wz[4][LINES], wp[4][LINES], freq[LINES], last[LINES], set[LINES], lsp[LINES];
     uint32_t index;
 
     memmove(coder->weighted, coder->weighted + FRAME, PAST * sizeof(float));
     for (int s = 0; s < 4; s++) {
         /* a window around the subframe */
         const float *subframe = speech + s * SUBFRAME;
-        double r[11];
+        double r[G7231_FILTER];
         float k2;
-        DONE(g7231_lpc_analysis, (subframe - SUBFRAME, WINDOW, a[s], r, &k2));
+        DONE(g7231_lpc_analysis, (subframe - SUBFRAME, G7231_WINDOW, a[s], r, &k2));
         ANSWERED(a[s]);
         ANSWERED(r);
         ANSWERED(k2);
@@ -107,8 +110,8 @@ static uint32_t code(struct coder *coder, const float *speech, uint32_t pitch[2]
         ANSWERED(pitch[half]);
     }
     for (size_t s = 0; s < 4; s++) {
-        static const float silence[60];
-        float aq[11], input[60], response[60], ringing[60], out[60], beta;
+        static const float silence[SUBFRAME];
+        float aq[G7231_FILTER], input[SUBFRAME], response[SUBFRAME], ringing[SUBFRAME], out[SUBFRAME], beta;
         uint32_t lag;
         DONE(g7231_interpolate_lsp, (s, last, coder->lines, lsp));
         DONE(g7231_lsp_to_lpc, (lsp, aq));
@@ -136,7 +139,7 @@ static uint32_t code(struct coder *coder, const float *speech, uint32_t pitch[2]
 /* The other end: the same set and the same lines from the index alone. */
 static void decode(struct decoder *decoder, uint32_t index)
 {
-    float set[10];
+    float set[LINES];
     DONE(g7231_decode_lsp_freq, (index, decoder->set, set));
     memcpy(decoder->set, set, sizeof set);
     settle(set, decoder->lines);
@@ -193,10 +196,10 @@ int main(int words, char **word)
     float *speech = read_call(word[1], &frames);
     static struct coder coder;
     static struct decoder decoder;
-    memcpy(coder.set, resting, sizeof resting);
-    DONE(g7231_lsp_freq_to_cosines, (resting, coder.lines));
+    DONE(g7231_resting_set, (coder.set));
+    DONE(g7231_lsp_freq_to_cosines, (coder.set, coder.lines));
     memcpy(coder.found, coder.lines, sizeof coder.lines);
-    memcpy(decoder.set, resting, sizeof resting);
+    memcpy(decoder.set, coder.set, sizeof coder.set);
     memcpy(decoder.lines, coder.lines, sizeof coder.lines);
 
     for (size_t frame = 0; frame < frames; frame++) {

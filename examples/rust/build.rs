@@ -17,6 +17,9 @@ fn main() {
         eprintln!("there is no {}: run ./install, or let G7231_FOLDER name the folder in full", archive.display());
         exit(1);
     }
+    let bindings = folder.join("share/g7231/g7231.rs");
+    println!("cargo::rerun-if-changed={}", bindings.display());
+    println!("cargo::rustc-env=G7231_BINDINGS={}", bindings.display());
     println!("cargo::rustc-link-search=native={}", folder.join("lib").display());
     println!("cargo::rustc-link-lib=static=g7231");
 }

@@ -1,5 +1,6 @@
-//! Arguments of the programs.
+//! What every program has: its arguments, its ends, and the repository around it.
 
+use std::path::PathBuf;
 use std::process::exit;
 use std::str::FromStr;
 
@@ -64,4 +65,15 @@ impl Args {
 pub fn fail(why: &str) -> ! {
     eprintln!("{why}");
     exit(1)
+}
+
+/// The top of the repository: the folder with crates.txt, here or above.
+pub fn top() -> PathBuf {
+    let mut at = std::env::current_dir().unwrap_or_else(|why| fail(&format!("this folder: {why}")));
+    while !at.join("crates.txt").is_file() {
+        if !at.pop() {
+            fail("no crates.txt in this folder or above it");
+        }
+    }
+    at
 }

@@ -1,43 +1,46 @@
-//! The library's doors, and a call of one with everything it is lent under watch.
+//! The library's doors as the header has them, and a call of one with everything it is lent under watch.
 
-use crate::operations::{Field, Kind, Operation};
 use crate::random::Random;
-use crate::words::Reader;
+use crate::shape::{Field, Kind};
 
-macro_rules! doors {
-    ($($landed:ident $name:ident($($arg:ident: $of:ty),*);)*) => { $(
-        #[cfg(all(library, $landed))]
-        extern "C" {
-            pub fn $name($($arg: $of),*) -> u32;
-        }
-        /// # Safety
-        /// Never called: an operation that has not landed is not compared.
-        #[cfg(not(all(library, $landed)))]
-        pub unsafe fn $name($(_: $of),*) -> u32 {
-            unreachable!("{} is not in the library", stringify!($name))
-        }
-    )* };
+/// What a door is, the doors as functions, and the table of them: doors/make has them from include/g7231.h.
+#[allow(clippy::all)]
+pub mod made {
+    include!(concat!(env!("OUT_DIR"), "/doors.rs"));
 }
 
-type In = *const f32;
-type Out = *mut f32;
+use made::{Argument, Door, Element, Many, Parameter, Way};
 
-doors! {
-    door_lpc_analysis g7231_lpc_analysis(window: In, len: usize, a: Out, r: *mut f64, k2: Out);
-    door_lpc_to_lsp g7231_lpc_to_lsp(a: In, lsp: Out);
-    door_lsp_cosines_to_freq g7231_lsp_cosines_to_freq(cosines: In, freq: Out);
-    door_lsp_freq_to_cosines g7231_lsp_freq_to_cosines(freq: In, cosines: Out);
-    door_quantise_lsp_freq g7231_quantise_lsp_freq(p: In, prev: In, index: *mut u32, set: Out);
-    door_decode_lsp_freq g7231_decode_lsp_freq(index: u32, prev: In, set: Out);
-    door_enforce_lsp_stability g7231_enforce_lsp_stability(cosines: In, spacing_hz: f32, out: Out, converged: *mut u32);
-    door_interpolate_lsp g7231_interpolate_lsp(choice: usize, prev: In, cur: In, out: Out);
-    door_lsp_to_lpc g7231_lsp_to_lpc(lsp: In, a: Out);
-    door_weighting_taps g7231_weighting_taps(a: In, wz: Out, wp: Out);
-    door_weight_subframe g7231_weight_subframe(x: In, len: usize, wz: In, wp: In, x_mem: Out, f_mem: Out, out: Out);
-    door_open_loop_pitch g7231_open_loop_pitch(wbuf: In, len: usize, half: usize, lag: *mut u32);
-    door_harmonic_noise_shaping g7231_harmonic_noise_shaping(wbuf: In, len: usize, place: usize, l_ol: u32, lag: *mut u32, beta: Out);
-    door_run_combined g7231_run_combined(syn: Out, wz_mem: Out, wp_mem: Out, p_hist: Out, input: In, aq: In, wz: In, wp: In, lag: u32, beta: f32, out: Out);
-    door_combined_impulse_response g7231_combined_impulse_response(aq: In, wz: In, wp: In, lag: u32, beta: f32, out: Out);
+/// What stands in the words of a parameter; none for the length of a list, which stands with the list.
+fn kind(parameter: &Parameter) -> Option<Kind> {
+    Some(match (parameter.way, parameter.element, parameter.many) {
+        (_, _, Many::Length) => return None,
+        (Way::Value, Element::F32, Many::One) => Kind::Single,
+        (Way::Value, Element::Size, Many::One) => Kind::Word,
+        (_, Element::U32, Many::One) => Kind::Number,
+        (_, Element::F32, Many::One) => Kind::Singles(1),
+        (_, Element::F32, Many::Fixed(n)) => Kind::Singles(n),
+        (_, Element::F64, Many::Fixed(n)) => Kind::Doubles(n),
+        (Way::Read, Element::F32, Many::Slice(_)) => Kind::Samples,
+        _ => panic!("the parameter {} has no form in words yet", parameter.name),
+    })
+}
+
+/// The fields that a door takes, and those that it gives. A memory is among both.
+pub fn fields(door: &Door) -> (Vec<Field>, Vec<Field>) {
+    let of = |test: fn(&Parameter) -> bool| {
+        let own = door.parameters.iter().filter(|parameter| test(parameter));
+        own.filter_map(|p| Some(Field { name: p.name, kind: kind(p)?, role: p.role })).collect()
+    };
+    (of(|p| p.way != Way::Made), of(|p| matches!(p.way, Way::Made | Way::Kept)))
+}
+
+/// The resting set of the line frequencies, by its door.
+pub fn resting_set() -> [f32; 10] {
+    let mut set = [0.0; 10];
+    // The buffer has the length that the door asks for, and the door refuses nothing.
+    unsafe { made::g7231_resting_set(&mut set) };
+    set
 }
 
 /// Guards on each side of a buffer, in units of 8 bytes.
@@ -45,23 +48,22 @@ const GUARD: usize = 4;
 
 /// Memory lent to a door: the words, with guards before and after.
 struct Buffer {
-    name: &'static str,
     store: Vec<u64>,
     before: Vec<u64>,
     words: usize,
 }
 
 impl Buffer {
-    fn new(name: &'static str, words: &[u32], random: &mut Random) -> Buffer {
+    fn new(words: &[u32], random: &mut Random) -> Buffer {
         let mut store: Vec<u64> = (0..2 * GUARD + words.len().div_ceil(2)).map(|_| random.next()).collect();
         for (i, word) in words.iter().enumerate() {
             let (unit, shift) = (GUARD + i / 2, 32 * (i % 2));
             store[unit] = store[unit] & !(0xffff_ffff << shift) | (*word as u64) << shift;
         }
-        Buffer { name, before: store.clone(), store, words: words.len() }
+        Buffer { before: store.clone(), store, words: words.len() }
     }
 
-    fn start(&mut self) -> *mut u32 {
+    fn start(&mut self) -> *mut u8 {
         // In bounds: the guards alone are longer.
         unsafe { self.store.as_mut_ptr().add(GUARD).cast() }
     }
@@ -76,15 +78,12 @@ impl Buffer {
         let tail = self.words.div_ceil(2) + GUARD;
         self.store[..GUARD] == self.before[..GUARD]
             && self.store[tail..] == self.before[tail..]
-            && (self.words % 2 == 0 || self.store[end] >> 32 == self.before[end] >> 32)
+            && (self.words.is_multiple_of(2) || self.store[end] >> 32 == self.before[end] >> 32)
     }
-}
 
-/// One call: its input in buffers of its own, and its results in buffers filled beforehand.
-pub struct Frame<'a> {
-    takes: &'a [Field],
-    given: &'a [u32],
-    buffers: Vec<Buffer>,
+    fn altered(&self) -> bool {
+        self.store != self.before
+    }
 }
 
 /// Patterns that a computation could alter in passing: NaNs that signal and NaNs with a payload.
@@ -94,87 +93,67 @@ fn fill(words: usize, random: &mut Random) -> Vec<u32> {
     (0..words).map(|_| if random.once_in(3) { *random.pick(&FRAGILE) } else { random.bits() }).collect()
 }
 
-impl<'a> Frame<'a> {
-    pub fn new(operation: &'a Operation, given: &'a [u32], random: &mut Random) -> Frame<'a> {
-        let mut buffers = Vec::new();
-        let mut reader = Reader::new(given);
-        for field in operation.takes {
-            let words = match field.kind {
-                Kind::Samples => {
-                    let length = reader.number() as usize;
-                    reader.words(length)
+/// What is handed over for one parameter.
+enum Handed {
+    Value(Argument),
+    /// The length of the list before it.
+    Length,
+    Lent(Buffer),
+}
+
+/// One call: its input in buffers of its own, and its results in buffers filled beforehand.
+pub struct Frame {
+    door: &'static Door,
+    handed: Vec<Handed>,
+}
+
+impl Frame {
+    /// The parts are those of the fields that the door takes.
+    pub fn new(door: &'static Door, parts: &[&[u32]], random: &mut Random) -> Frame {
+        let mut parts = parts.iter().copied();
+        let mut part = || parts.next().unwrap_or_default();
+        let hand = |parameter: &Parameter| match (kind(parameter), parameter.way) {
+            (None, _) => Handed::Length,
+            (Some(kind), Way::Made) => Handed::Lent(Buffer::new(&fill(kind.words(), random), random)),
+            (Some(kind), Way::Value) => Handed::Value(value(kind, part())),
+            (Some(_), Way::Read | Way::Kept) => Handed::Lent(Buffer::new(part(), random)),
+        };
+        Frame { door, handed: door.parameters.iter().map(hand).collect() }
+    }
+
+    /// Calls the door, and answers its status.
+    pub fn call(&mut self) -> u32 {
+        let mut length = 0;
+        let arguments: Vec<Argument> = self
+            .handed
+            .iter_mut()
+            .map(|handed| match handed {
+                Handed::Value(value) => *value,
+                Handed::Length => Argument { size: length },
+                Handed::Lent(buffer) => {
+                    length = buffer.words;
+                    Argument { place: buffer.start() }
                 }
-                kind => reader.words(kind.words()),
-            };
-            if matches!(field.kind, Kind::Singles(_) | Kind::Samples) {
-                buffers.push(Buffer::new(field.name, words, random));
-            }
-        }
-        for field in operation.gives {
-            // A memory that is lent is among the inputs already.
-            if buffers.iter().all(|buffer| buffer.name != field.name) {
-                buffers.push(Buffer::new(field.name, &fill(field.kind.words(), random), random));
-            }
-        }
-        Frame { takes: operation.takes, given, buffers }
+            })
+            .collect();
+        // Each argument is what its parameter asks for, and the buffers live as long as this frame.
+        unsafe { (self.door.safe)(&arguments) }
     }
 
-    fn buffer(&mut self, name: &str) -> &mut Buffer {
-        match self.buffers.iter_mut().find(|buffer| buffer.name == name) {
-            Some(buffer) => buffer,
-            None => panic!("no buffer {name}"),
-        }
-    }
-
-    pub fn singles(&mut self, name: &str) -> *mut f32 {
-        self.buffer(name).start().cast()
-    }
-
-    pub fn doubles(&mut self, name: &str) -> *mut f64 {
-        self.buffer(name).start().cast()
-    }
-
-    pub fn numbers(&mut self, name: &str) -> *mut u32 {
-        self.buffer(name).start()
-    }
-
-    pub fn length(&mut self, name: &str) -> usize {
-        self.buffer(name).words
-    }
-
-    fn value(&self, name: &str) -> Reader<'a> {
-        let mut reader = Reader::new(self.given);
-        for field in self.takes {
-            if field.name == name {
-                return reader;
-            }
-            match field.kind {
-                Kind::Samples => drop(reader.samples()),
-                kind => drop(reader.words(kind.words())),
-            }
-        }
-        panic!("no value {name}")
-    }
-
-    pub fn number(&self, name: &str) -> u32 {
-        self.value(name).number()
-    }
-
-    pub fn word(&self, name: &str) -> usize {
-        self.value(name).word()
-    }
-
-    pub fn single(&self, name: &str) -> f32 {
-        self.value(name).single()
+    /// The buffers, each with its parameter.
+    fn lent(&self) -> impl Iterator<Item = (&'static Parameter, &Buffer)> {
+        self.door.parameters.iter().zip(&self.handed).filter_map(|(parameter, handed)| match handed {
+            Handed::Lent(buffer) => Some((parameter, buffer)),
+            _ => None,
+        })
     }
 
     /// What the call gave, in words; doubles lie in memory low word first.
-    pub fn gave(&self, operation: &Operation) -> Vec<u32> {
+    pub fn gave(&self) -> Vec<u32> {
         let mut words = Vec::new();
-        for field in operation.gives {
-            let Some(buffer) = self.buffers.iter().find(|buffer| buffer.name == field.name) else { continue };
+        for (parameter, buffer) in self.lent().filter(|(parameter, _)| parameter.way != Way::Read) {
             let mut own = buffer.words();
-            if matches!(field.kind, Kind::Doubles(_)) {
+            if parameter.element == Element::F64 {
                 own.chunks_mut(2).for_each(|pair| pair.swap(0, 1));
             }
             words.extend(own);
@@ -183,19 +162,28 @@ impl<'a> Frame<'a> {
     }
 
     /// What the call did that it may not: a guard or an input altered, or after a refusal anything at all.
-    pub fn trespass(&self, operation: &Operation, refused: bool) -> Option<String> {
-        for buffer in &self.buffers {
-            let own = operation.gives.iter().any(|field| field.name == buffer.name);
+    pub fn trespass(&self, refused: bool) -> Option<String> {
+        for (parameter, buffer) in self.lent() {
             if !buffer.guarded() {
-                return Some(format!("wrote outside {}", buffer.name));
+                return Some(format!("wrote outside {}", parameter.name));
             }
-            if !own && buffer.store != buffer.before {
-                return Some(format!("altered {}, which is only read", buffer.name));
+            if parameter.way == Way::Read && buffer.altered() {
+                return Some(format!("altered {}, which is only read", parameter.name));
             }
-            if refused && buffer.store != buffer.before {
-                return Some(format!("altered {} and refused", buffer.name));
+            if refused && buffer.altered() {
+                return Some(format!("altered {} and refused", parameter.name));
             }
         }
         None
+    }
+}
+
+/// What is handed over by value.
+fn value(kind: Kind, words: &[u32]) -> Argument {
+    match (kind, words) {
+        (Kind::Single, [bits]) => Argument { single: f32::from_bits(*bits) },
+        (Kind::Number, [number]) => Argument { number: *number },
+        (Kind::Word, [high, low]) => Argument { size: (*high as usize) << 32 | *low as usize },
+        _ => panic!("{} words make no value", words.len()),
     }
 }

@@ -1,9 +1,9 @@
-//! An input as a line of text, and as its parts.
+//! An input as a line of text.
 //!
 //! The line is the operation's name and the words in hexadecimal; `00000000x180` stands for a word 180 times.
 
-use crate::inputs::Parts;
-use crate::operations::{Field, Kind, Operation, OPERATIONS};
+use crate::operations::{named, Operation};
+use crate::shape::split;
 
 /// Words in hexadecimal.
 pub fn hex(words: &[u32]) -> String {
@@ -28,8 +28,7 @@ pub fn line(operation: &Operation, given: &[u32]) -> String {
 pub fn parse(text: &str) -> Result<(&'static Operation, Vec<u32>), String> {
     let mut words = text.split_whitespace();
     let name = words.next().ok_or("an input opens with the name of a function")?;
-    let operation =
-        OPERATIONS.iter().find(|operation| operation.name == name).ok_or(format!("there is no function {name}"))?;
+    let operation = named(name)?;
     let mut given = Vec::new();
     for text in words {
         let (word, times) =
@@ -40,7 +39,7 @@ pub fn parse(text: &str) -> Result<(&'static Operation, Vec<u32>), String> {
         }
         given.extend(std::iter::repeat_n(word, times));
     }
-    split(operation.takes, &given).map_err(|why| format!("{name}: {why}"))?;
+    split(operation.takes(), &given).map_err(|why| format!("{name}: {why}"))?;
     Ok((operation, given))
 }
 
@@ -53,47 +52,22 @@ fn repeated(text: &str) -> Option<(u32, usize)> {
     digits.then_some((u32::from_str_radix(word, 16).ok()?, times))
 }
 
-/// The parts of an input: one list a field, of a list of samples the singles alone.
-pub fn split(takes: &[Field], given: &[u32]) -> Result<Parts, String> {
-    let mut rest = given;
-    let mut parts = Vec::new();
-    for field in takes {
-        let length = match (field.kind, rest) {
-            (Kind::Samples, [length, after @ ..]) => {
-                rest = after;
-                *length as usize
-            }
-            (Kind::Samples, []) => return Err(format!("there is no length of {}", field.name)),
-            (kind, _) => kind.words(),
-        };
-        let (part, after) = rest.split_at_checked(length).ok_or(format!(
-            "{} has {length} words, and {} are left",
-            field.name,
-            rest.len()
-        ))?;
-        parts.push(part.to_vec());
-        rest = after;
-    }
-    match rest.len() {
-        0 => Ok(parts),
-        n => Err(format!("{n} words too many")),
-    }
-}
-
 #[cfg(test)]
 mod tests {
     use super::*;
-    use crate::inputs;
+    use crate::operations::OPERATIONS;
     use crate::random::Random;
+    use crate::shape::joined;
 
     #[test]
     fn a_line_leads_back_to_its_input() {
-        for operation in &OPERATIONS {
+        for operation in OPERATIONS.iter() {
             for turn in 0..300 {
-                let given = inputs::draw(operation, &mut Random::new(3, operation.number, 11 * turn), 11 * turn);
+                let given = operation.source.draw(&mut Random::new(3, operation.number, 11 * turn), 11 * turn);
                 let (found, read) = parse(&line(operation, &given)).unwrap();
                 assert_eq!((found.name, &read), (operation.name, &given));
-                assert_eq!(inputs::joined(operation.takes, &split(operation.takes, &given).unwrap()), given);
+                let parts = operation.parts(&given).into_iter().map(<[u32]>::to_vec).collect();
+                assert_eq!(joined(operation.takes(), &parts), given);
             }
         }
     }

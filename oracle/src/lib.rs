@@ -1,47 +1,73 @@
 //! The published Rust as a reference for the library.
 //!
-//! `rule` is document 01's cosine, step, angle and gate rules; `reference` adds its refusals to the Rust's functions;
-//! `operations` lists the fifteen operations with their inputs and answers as words; `inputs` draws the inputs;
-//! `doors` calls the library and `trial` holds its answer to the Rust's; `runner` does so turn by turn on several
-//! threads, and `shrink` makes an input that shows a fault plain. build.rs cuts the Rust out of its source; where that
-//! is missing nothing is compared.
+//! `shape` says what words an input and an answer have; `inputs` draws them, from what is `likely` and what is `special`,
+//! and `doors` calls the library. `rule` is document 01's cosine, step, angle and gate rules; `reference` adds its
+//! refusals to the Rust's functions. `operations` ties these together, `trial` holds a door's answer to the Rust's,
+//! `runner` does so turn by turn on several threads, and `shrink` makes an input that shows a fault plain. build.rs cuts
+//! the Rust out of its source; where that is missing nothing is compared.
 
 pub mod args;
+pub mod both;
 pub mod distances;
 pub mod doors;
 pub mod given;
+#[path = "../../examples/rust/src/hash.rs"]
+pub mod hash;
 pub mod inputs;
+pub mod likely;
 pub mod line_coder;
+pub mod makers;
 pub mod operations;
 pub mod progress;
 pub mod random;
 pub mod reference;
 pub mod rule;
 pub mod runner;
+pub mod shape;
 pub mod shrink;
 pub mod sources;
+pub mod special;
 pub mod speech;
+#[cfg(rust)]
+pub mod ties;
 pub mod trial;
 pub mod words;
-
-/// What build.rs found.
-pub mod found {
-    include!(concat!(env!("OUT_DIR"), "/found.rs"));
-}
 
 #[cfg(rust)]
 include!(concat!(env!("OUT_DIR"), "/rust.rs"));
 
-/// The Rust's functions as published, and with document 01's rules in place of cos, acos and log10.
-pub struct Both {
-    pub published: reference::Rust,
-    pub ruled: reference::Rust,
-}
+#[cfg(test)]
+mod tests {
+    use std::collections::{BTreeMap, BTreeSet};
+    use std::fs;
+    use std::path::Path;
 
-/// Both, or why there is nothing to compare with.
-pub fn rust() -> Result<Both, String> {
-    #[cfg(rust)]
-    return Ok(Both { published: published::encoder::reach::RUST, ruled: ruled::encoder::reach::RUST });
-    #[cfg(not(rust))]
-    return Err(format!("the Rust's source is not at {} (G7231_RUST names another folder)", found::RUST_PATH));
+    /// The modules that a module names, by file; the cut Rust is seen through reach.rs.
+    fn imports() -> BTreeMap<String, BTreeSet<String>> {
+        let mut all = BTreeMap::new();
+        for entry in fs::read_dir(Path::new(env!("CARGO_MANIFEST_DIR")).join("src")).unwrap() {
+            let path = entry.unwrap().path();
+            let name = path.file_stem().unwrap().to_string_lossy().to_string();
+            if path.is_file() && name != "lib" {
+                let text = fs::read_to_string(&path).unwrap();
+                let after = text.split("crate::").skip(1);
+                let named = after.map(|rest| rest.split(|c: char| c != '_' && !c.is_alphanumeric()).next().unwrap());
+                let named = named.map(|n| if ["published", "ruled"].contains(&n) { "reach" } else { n }.to_string());
+                all.insert(name, named.collect());
+            }
+        }
+        all
+    }
+
+    #[test]
+    fn imports_go_one_way() {
+        let mut left = imports();
+        assert!(left.len() > 20 && left["operations"].len() > 5, "{left:?}");
+        // What imports nothing that is left is taken away, again and again; a circle stays.
+        while !left.is_empty() {
+            let names: BTreeSet<String> = left.keys().cloned().collect();
+            left.retain(|_, imported| !imported.is_disjoint(&names));
+            assert!(left.len() < names.len(), "these import one another in a circle: {left:?}");
+        }
+    }
 }

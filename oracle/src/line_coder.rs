@@ -2,15 +2,19 @@
 //!
 //! As document 01's stages stand in a coder, with neither the frame driver's high-pass filter nor its stability pass.
 
-use crate::doors;
-use crate::found::LIBRARY;
-use crate::inputs::RESTING;
+use crate::both::rust;
+use crate::doors::made::*;
+use crate::doors::resting_set;
+use crate::hash::Hash;
+use crate::makers::resting;
 
 type Ten = [f32; 10];
+type Analysis = ([f32; 11], [f64; 11], f32);
 
-/// The four stages, the Rust's or the library's.
+/// The four stages and the set that they start from, the Rust's or the library's.
 pub struct LineCoder {
-    pub filter: fn(&[f32]) -> [f32; 11],
+    pub resting: Ten,
+    pub analyse: fn(&[f32]) -> Analysis,
     pub lines: fn(&[f32; 11]) -> Option<Ten>,
     pub frequencies: fn(&Ten) -> Ten,
     pub quantise: fn(&Ten, &Ten) -> (u32, Ten),
@@ -18,36 +22,29 @@ pub struct LineCoder {
 
 /// The published Rust's stages, cos and acos of the C library included.
 pub fn published() -> Result<LineCoder, String> {
-    #[cfg(rust)]
-    {
-        use crate::published::encoder::reach::RUST;
-        Ok(LineCoder {
-            filter: |window| (RUST.lpc_analysis)(window).0,
-            lines: RUST.lpc_to_lsp,
-            frequencies: RUST.lsp_cosines_to_freq,
-            quantise: RUST.quantise_lsp_freq,
-        })
-    }
-    #[cfg(not(rust))]
-    Err(format!("the Rust's source is not at {}", crate::found::RUST_PATH))
+    let rust = rust()?.published;
+    Ok(LineCoder {
+        resting: resting(),
+        analyse: rust.lpc_analysis,
+        lines: rust.lpc_to_lsp,
+        frequencies: rust.lsp_cosines_to_freq,
+        quantise: rust.quantise_lsp_freq,
+    })
 }
 
 /// The library's stages.
-pub fn ours() -> Result<LineCoder, String> {
-    if !LIBRARY {
-        return Err(format!("there is no library at {}", crate::found::LIBRARY_PATH));
-    }
-    Ok(LineCoder {
-        filter: |window| {
+pub fn ours() -> LineCoder {
+    LineCoder {
+        resting: resting_set(),
+        analyse: |window| {
             let (mut a, mut r, mut k2) = ([0.0; 11], [0.0; 11], 0.0);
-            let len = window.len();
-            done(unsafe { doors::g7231_lpc_analysis(window.as_ptr(), len, a.as_mut_ptr(), r.as_mut_ptr(), &mut k2) });
-            a
+            done(unsafe { g7231_lpc_analysis(window.as_ptr(), window.len(), &mut a, &mut r, &mut k2) });
+            (a, r, k2)
         },
         lines: |a| {
             let mut lsp = [0.0; 10];
-            match unsafe { doors::g7231_lpc_to_lsp(a.as_ptr(), lsp.as_mut_ptr()) } {
-                7 => None,
+            match unsafe { g7231_lpc_to_lsp(a, &mut lsp) } {
+                G7231_NO_LINE_SET => None,
                 status => {
                     done(status);
                     Some(lsp)
@@ -56,15 +53,15 @@ pub fn ours() -> Result<LineCoder, String> {
         },
         frequencies: |lsp| {
             let mut freq = [0.0; 10];
-            done(unsafe { doors::g7231_lsp_cosines_to_freq(lsp.as_ptr(), freq.as_mut_ptr()) });
+            done(unsafe { g7231_lsp_cosines_to_freq(lsp, &mut freq) });
             freq
         },
         quantise: |p, prev| {
             let (mut index, mut set) = (0, [0.0; 10]);
-            done(unsafe { doors::g7231_quantise_lsp_freq(p.as_ptr(), prev.as_ptr(), &mut index, set.as_mut_ptr()) });
+            done(unsafe { g7231_quantise_lsp_freq(p, prev, &mut index, &mut set) });
             (index, set)
         },
-    })
+    }
 }
 
 /// Samples are finite and within bounds, so nothing of a call is refused.
@@ -83,13 +80,13 @@ pub fn samples_of(frames: usize) -> usize {
 
 /// The index of each frame. A frame without a line set is coded with the lines before it.
 pub fn indices(coder: &LineCoder, call: &[i16]) -> Vec<u32> {
-    let (mut frequencies, mut set) = (RESTING, RESTING);
+    let (mut frequencies, mut set) = (coder.resting, coder.resting);
     let frames = (call.len() - 60) / FRAME;
     let mut all = Vec::with_capacity(frames);
     for frame in 0..frames {
         let start = FRAME * frame + WINDOW.0;
         let window: Vec<f32> = call[start..start + WINDOW.1].iter().map(|x| f32::from(*x)).collect();
-        if let Some(lines) = (coder.lines)(&(coder.filter)(&window)) {
+        if let Some(lines) = (coder.lines)(&(coder.analyse)(&window).0) {
             frequencies = (coder.frequencies)(&lines);
         }
         let (index, decoded) = (coder.quantise)(&frequencies, &set);
@@ -99,10 +96,11 @@ pub fn indices(coder: &LineCoder, call: &[i16]) -> Vec<u32> {
     all
 }
 
-/// FNV-1a, 64 bits, over the indices as four bytes each, lowest first.
+/// The hash of a call's indices.
 pub fn hash(indices: &[u32]) -> u64 {
-    let bytes = indices.iter().flat_map(|index| index.to_le_bytes());
-    bytes.fold(0xcbf2_9ce4_8422_2325, |hash, byte| (hash ^ u64::from(byte)).wrapping_mul(0x0000_0100_0000_01b3))
+    let mut hash = Hash::new();
+    indices.iter().for_each(|index| hash.number(*index));
+    hash.0
 }
 
 #[cfg(test)]

@@ -3,9 +3,9 @@
 //! Fewer samples first; then zeros, ones and resting values in place of whole fields, their halves, and so on down to
 //! single words; then single words with fewer digits. Each step must make the input lighter, so it comes to an end.
 
-use crate::given::split;
-use crate::inputs::{self, joined, Parts};
-use crate::operations::{Field, Kind, Operation};
+use crate::makers;
+use crate::operations::Operation;
+use crate::shape::{bits, joined, word, Field, Parts};
 
 /// At most so many inputs are tried.
 const TRIALS: u64 = 20_000;
@@ -18,8 +18,8 @@ pub struct Smallest {
 
 /// The lightest input found for which `faulty` holds, starting from one for which it does.
 pub fn shrink(operation: &Operation, given: &[u32], faulty: &mut dyn FnMut(&[u32]) -> bool) -> Smallest {
-    let Ok(best) = split(operation.takes, given) else { return Smallest { given: given.to_vec(), trials: 0 } };
-    let mut search = Search { takes: operation.takes, resting: resting(operation), best, trials: 0, faulty };
+    let best = operation.parts(given).into_iter().map(<[u32]>::to_vec).collect();
+    let mut search = Search { takes: operation.takes(), resting: resting(operation), best, trials: 0, faulty };
     loop {
         let before = search.weight(&search.best);
         search.fewer_samples();
@@ -59,16 +59,13 @@ impl Search<'_> {
     }
 
     fn weight_of(&self, at: usize, field: &Field, part: &[u32]) -> u64 {
-        match field.kind {
-            Kind::Number | Kind::Word => {
-                let (n, rest) = (value(part), value(&self.resting[at]));
-                match n {
-                    0 => 0,
-                    n if n == rest => 1,
-                    n => 2 + n.min(1000) + u64::from(64 - n.leading_zeros()),
-                }
-            }
-            _ => part.iter().enumerate().map(|(i, word)| 1 + weight_of_single(*word, self.rest(at, i))).sum(),
+        if !field.is_whole() {
+            return part.iter().enumerate().map(|(i, word)| 1 + weight_of_single(*word, self.rest(at, i))).sum();
+        }
+        match value(part) {
+            0 => 0,
+            n if n == value(&self.resting[at]) => 1,
+            n => 2 + n.min(1000) + u64::from(64 - n.leading_zeros()),
         }
     }
 
@@ -78,7 +75,7 @@ impl Search<'_> {
 
     /// Lists of samples cut at the end or the start, by all, a half, a quarter, ..
     fn fewer_samples(&mut self) {
-        for at in (0..self.takes.len()).filter(|at| matches!(self.takes[*at].kind, Kind::Samples)) {
+        for at in (0..self.takes.len()).filter(|at| self.takes[*at].is_list()) {
             let mut cut = self.best[at].len();
             while cut > 0 {
                 for from_start in [false, true] {
@@ -102,7 +99,7 @@ impl Search<'_> {
         let mut pieces = 1;
         loop {
             for at in 0..self.takes.len() {
-                let (length, whole) = (self.best[at].len(), is_whole(&self.takes[at]));
+                let (length, whole) = (self.best[at].len(), self.takes[at].is_whole());
                 // A number is one value, whatever its words.
                 let size = if whole { length } else { length.div_ceil(pieces) };
                 if length == 0 || pieces > length || (whole && pieces > 1) {
@@ -120,7 +117,7 @@ impl Search<'_> {
     }
 
     fn plainer_piece(&mut self, at: usize, start: usize, end: usize) {
-        let fills: &[u32] = if is_whole(&self.takes[at]) { &[0] } else { &[0, ONE] };
+        let fills: &[u32] = if self.takes[at].is_whole() { &[0] } else { &[0, ONE] };
         for fill in fills {
             let mut parts = self.best.clone();
             parts[at][start..end].fill(*fill);
@@ -138,7 +135,7 @@ impl Search<'_> {
     /// Words with fewer digits, without their sign, or between 1 and 2; smaller numbers.
     fn plainer_words(&mut self) {
         for at in 0..self.takes.len() {
-            if is_whole(&self.takes[at]) {
+            if self.takes[at].is_whole() {
                 while plainer_numbers(value(&self.best[at])).into_iter().any(|n| {
                     let mut parts = self.best.clone();
                     parts[at] = number(n, parts[at].len());
@@ -155,10 +152,6 @@ impl Search<'_> {
             }
         }
     }
-}
-
-fn is_whole(field: &Field) -> bool {
-    matches!(field.kind, Kind::Number | Kind::Word)
 }
 
 fn value(words: &[u32]) -> u64 {
@@ -195,34 +188,29 @@ fn plainer_numbers(n: u64) -> Vec<u64> {
 
 /// Values that nothing refuses: the resting set as frequencies, a bare filter, the smallest lag and place.
 fn resting(operation: &Operation) -> Parts {
-    let quantiser = ["quantise_lsp_freq", "decode_lsp_freq", "lsp_freq_to_cosines"].contains(&operation.name);
-    let of = |field: &Field| match (field.name, field.kind) {
-        ("freq" | "p" | "prev", _) if quantiser => inputs::RESTING.map(f32::to_bits).to_vec(),
-        ("a" | "aq", _) => (0..11).map(|i| if i == 0 { ONE } else { 0 }).collect(),
-        ("spacing_hz", _) => vec![31.25f32.to_bits()],
-        ("lag" | "l_ol", _) => vec![18],
-        ("place", kind) => number(145, kind.words()),
-        (_, kind) => vec![0; kind.words()],
+    let of = |field: &Field| match field.role {
+        "frequencies" => bits(&makers::resting()),
+        "filter" => (0..field.kind.words()).map(|i| if i == 0 { ONE } else { 0 }).collect(),
+        "spacing" => bits(&[31.25]),
+        "lag" | "pitch lag" => vec![18],
+        "place" => word(145),
+        _ => vec![0; field.kind.words()],
     };
-    operation.takes.iter().map(of).collect()
+    operation.takes().iter().map(of).collect()
 }
 
 #[cfg(test)]
 mod tests {
     use super::*;
-    use crate::operations::OPERATIONS;
+    use crate::operations::named;
     use crate::random::Random;
     use crate::trial::spoils;
 
-    fn operation(name: &str) -> &'static Operation {
-        OPERATIONS.iter().find(|operation| operation.name == name).unwrap()
-    }
-
     /// The first drawn input that a predicate holds for, made smaller.
     fn smallest(name: &str, faulty: &mut dyn FnMut(&[u32]) -> bool) -> Vec<u32> {
-        let operation = operation(name);
+        let operation = named(name).unwrap();
         let mut drawn =
-            (0..100_000).map(|turn| inputs::draw(operation, &mut Random::new(1, operation.number, turn), turn));
+            (0..100_000).map(|turn| operation.source.draw(&mut Random::new(1, operation.number, turn), turn));
         let first = drawn.find(|given| faulty(given)).unwrap();
         let smallest = shrink(operation, &first, faulty);
         assert!(faulty(&smallest.given), "{name}");
@@ -254,6 +242,6 @@ mod tests {
         assert_eq!(given[4..], [0; 7]);
         assert_eq!(given[1..3], [0; 2]);
         assert!((5001..=10_001).contains(&given[0]), "{}", given[0]);
-        assert_eq!(given[3], inputs::RESTING[2].to_bits());
+        assert_eq!(given[3], makers::resting()[2].to_bits());
     }
 }

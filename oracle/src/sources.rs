@@ -9,17 +9,6 @@ pub struct Table {
     pub numbers: Vec<i64>,
 }
 
-/// The top of the repository: the folder with crates.txt, here or above.
-pub fn top() -> Result<PathBuf, String> {
-    let mut at = std::env::current_dir().map_err(|e| e.to_string())?;
-    while !at.join("crates.txt").is_file() {
-        if !at.pop() {
-            return Err("no crates.txt in this folder or above it".to_string());
-        }
-    }
-    Ok(at)
-}
-
 /// Every constant array of numbers in the .rt files of a folder.
 pub fn tables(folder: &Path) -> Result<Vec<Table>, String> {
     let mut files: Vec<PathBuf> = fs::read_dir(folder)

@@ -1,9 +1,37 @@
-//! A call made of whole numbers alone: no cosine of any C library is in its samples.
+//! Speech, made: pulses at a pitch or noise, through three resonators.
 //!
-//! Pulses at a pitch that drifts, or noise, through three resonators; every tenth of a second other resonators, another
-//! loudness, and voice or none.
+//! A piece is drawn from the numbers that the rest of its input is drawn from; the stored answers fix it. A call is made
+//! of whole numbers alone, so that no cosine of any C library is in its samples; every tenth of a second it has other
+//! resonators, another loudness, and voice or none.
 
 use crate::random::Random;
+
+/// So many samples, the largest of them 1 in magnitude.
+pub fn piece(random: &mut Random, n: usize) -> Vec<f64> {
+    let lag = 18 + random.below(125);
+    let voiced = random.between(0.0, 1.0);
+    let stages: Vec<(f64, f64)> =
+        (0..3).map(|_| (random.between(0.5, 0.97), random.between(0.05, std::f64::consts::PI))).collect();
+    let mut memory = [[0.0f64; 2]; 3];
+    let mut out = Vec::with_capacity(n);
+    for t in 0..n + 150 {
+        let mut x = (1.0 - voiced) * random.between(-1.0, 1.0) + if t % lag == 0 { 6.0 * voiced } else { 0.0 };
+        for ((radius, angle), past) in stages.iter().zip(&mut memory) {
+            x += 2.0 * radius * angle.cos() * past[0] - radius * radius * past[1];
+            *past = [x, past[0]];
+        }
+        if t >= 150 {
+            out.push(x);
+        }
+    }
+    let peak = out.iter().fold(1e-9, |m: f64, x| m.max(x.abs()));
+    out.iter().map(|x| x / peak).collect()
+}
+
+/// The same at the level of 16-bit samples.
+pub fn loud_piece(random: &mut Random, n: usize) -> Vec<f32> {
+    piece(random, n).into_iter().map(|x| (8_000.0 * x).round() as f32).collect()
+}
 
 /// One is 2^14 in the coefficients of the resonators.
 const ONE: i64 = 1 << 14;
@@ -34,8 +62,8 @@ impl Resonator {
     }
 }
 
-/// So many 16-bit samples, fixed by the seed.
-pub fn samples(seed: u64, count: usize) -> Vec<i16> {
+/// So many 16-bit samples of a call, fixed by the seed.
+pub fn call(seed: u64, count: usize) -> Vec<i16> {
     let mut random = Random::new(seed, 118, 0);
     let mut stages = [(); 3].map(|()| Resonator { b1: 0, b2: 0, past: [0; 2] });
     let (mut voiced, mut loudness, mut lag, mut next_pulse) = (true, 0, 60, 0);
@@ -68,11 +96,11 @@ mod tests {
     #[test]
     fn a_call_is_neither_silence_nor_a_wall() {
         for seed in 1..20 {
-            let call = samples(seed, 48_000);
-            let loud = call.iter().filter(|x| x.unsigned_abs() > 100).count();
-            let cut = call.iter().filter(|x| x.unsigned_abs() >= 32_767).count();
+            let samples = call(seed, 48_000);
+            let loud = samples.iter().filter(|x| x.unsigned_abs() > 100).count();
+            let cut = samples.iter().filter(|x| x.unsigned_abs() >= 32_767).count();
             assert!(loud > 12_000 && cut < 4_800, "seed {seed}: {loud} loud, {cut} cut");
-            assert_eq!(call[..24_000], samples(seed, 24_000));
+            assert_eq!(samples[..24_000], call(seed, 24_000));
         }
     }
 }

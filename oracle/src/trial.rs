@@ -1,10 +1,9 @@
 //! One call of a door, held to the Rust's answer.
 
+use crate::both::Both;
 use crate::distances::{Distances, Seen};
-use crate::doors::Frame;
 use crate::operations::Operation;
 use crate::random::Random;
-use crate::Both;
 
 /// What a door answered, and what it should have.
 pub struct Trial {
@@ -27,15 +26,17 @@ impl Judge {
     /// Calls the door on one input. The random numbers fill the buffers of the results and the guards.
     pub fn call(&self, operation: &Operation, given: &[u32], random: &mut Random) -> Trial {
         let (wanted_status, wanted) = operation.whole_answer(&self.rust.ruled, given);
-        let mut frame = Frame::new(operation, given, random);
-        let status = (operation.door)(&mut frame);
-        let mut gave = frame.gave(operation);
+        let mut frame = operation.frame(given, random);
+        let status = frame.call();
+        let mut gave = frame.gave();
         if self.plant && status == 0 && spoils(given) {
             spoil(&mut gave);
         }
         let fault = if status != wanted_status {
             Some(format!("status {status} and not {wanted_status}"))
-        } else if let Some(trespass) = frame.trespass(operation, status != 0) {
+        } else if status != 0 && !operation.door.refusals.contains(&status) {
+            Some(format!("status {status}, which the header does not list"))
+        } else if let Some(trespass) = frame.trespass(status != 0) {
             Some(trespass)
         } else if status == 0 && !operation.same(&gave, &wanted) {
             Some("other results".to_string())

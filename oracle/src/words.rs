@@ -1,7 +1,4 @@
-//! Inputs and answers as lists of 32-bit words.
-//!
-//! A single is its bits. A double and a machine word (a length, place, half or choice) are two words, high then low.
-//! A list of samples is its length and then its singles.
+//! Reads and writes the words of inputs and answers, as `shape` has them.
 
 /// Reads words in order; an input is made by this package, so running out of it is a fault of its own.
 pub struct Reader<'a> {
@@ -53,11 +50,6 @@ impl Words {
         self
     }
 
-    pub fn word(mut self, n: usize) -> Words {
-        self.0.extend([(n as u64 >> 32) as u32, n as u32]);
-        self
-    }
-
     pub fn single(self, x: f32) -> Words {
         self.number(x.to_bits())
     }
@@ -70,9 +62,5 @@ impl Words {
     pub fn doubles(mut self, xs: &[f64]) -> Words {
         self.0.extend(xs.iter().flat_map(|x| [(x.to_bits() >> 32) as u32, x.to_bits() as u32]));
         self
-    }
-
-    pub fn samples(self, xs: &[f32]) -> Words {
-        self.number(xs.len() as u32).singles(xs)
     }
 }

@@ -1,5 +1,6 @@
-// Doors for C and Rust, one for each operation, as include/g7231.h declares them. A door returns the operation's status.
-// A refused call leaves every lent buffer as it was.
+// Doors for C and Rust, one for each operation: the bare forms, around which the safe forms set the floating-point mode
+// (doors/guard.c), and the doors that compute no float. `doors/make check` holds include/g7231.h to them. A door returns
+// the operation's status; a refused call leaves every lent buffer as it was.
 ghost use mathlib.Core.Path.{_≡_};
 ghost use Rattle.convert.specs.Convert.{freqToCosines, cosinesToFreq};
 ghost use Rattle.lpc.specs.Analysis.{lpcAnalysis};
@@ -19,9 +20,21 @@ ghost use Rattle.combined.specs.Run.{runCombined};
 ghost use Rattle.impulse.specs.Impulse.{impulseResponse};
 ghost use Rattle.c_api.specs.Lent.{lent, flag};
 ghost use Rattle.c_api.specs.Memory.{memory};
+ghost use Rattle.spec_lsp.specs.Resting.{resting};
+
+// It has no bare form: a whole number as a single is exact in every mode.
+#[no_mangle]
+pub extern "C" fn g7231_resting_set(set: &mut [f32; 10]) -> u32
+    ensures status { λ r. ⌜ r ≡ 0 ⌝ }
+    ensures lines { λ r. ⌜ now (set .exit) ≡ resting ⌝ }
+{
+    let lines = spec_lsp::resting::resting_set();
+    *set = lines;
+    0
+}
 
 #[no_mangle]
-pub extern "C" fn g7231_lsp_cosines_to_freq(cosines: &[f32; 10], freq: &mut [f32; 10]) -> u32
+pub extern "C" fn g7231_bare_lsp_cosines_to_freq(cosines: &[f32; 10], freq: &mut [f32; 10]) -> u32
     ensures status { λ r. ⌜ r ≡ cosinesToFreq (now (cosines .entry)) .status ⌝ }
     ensures buffer { λ r. ⌜ now (freq .exit) ≡ lent r (now (freq .entry)) (cosinesToFreq (now (cosines .entry)) .lines) ⌝ }
 {
@@ -36,7 +49,7 @@ pub extern "C" fn g7231_lsp_cosines_to_freq(cosines: &[f32; 10], freq: &mut [f32
 }
 
 #[no_mangle]
-pub extern "C" fn g7231_lsp_freq_to_cosines(freq: &[f32; 10], cosines: &mut [f32; 10]) -> u32
+pub extern "C" fn g7231_bare_lsp_freq_to_cosines(freq: &[f32; 10], cosines: &mut [f32; 10]) -> u32
     ensures status { λ r. ⌜ r ≡ freqToCosines (now (freq .entry)) .status ⌝ }
     ensures buffer { λ r. ⌜ now (cosines .exit) ≡ lent r (now (cosines .entry)) (freqToCosines (now (freq .entry)) .lines) ⌝ }
 {
@@ -51,7 +64,7 @@ pub extern "C" fn g7231_lsp_freq_to_cosines(freq: &[f32; 10], cosines: &mut [f32
 }
 
 #[no_mangle]
-pub extern "C" fn g7231_lpc_analysis(
+pub extern "C" fn g7231_bare_lpc_analysis(
     window: &[f32],
     a: &mut [f32; 11],
     r: &mut [f64; 11],
@@ -76,7 +89,7 @@ pub extern "C" fn g7231_lpc_analysis(
 }
 
 #[no_mangle]
-pub extern "C" fn g7231_enforce_lsp_stability(
+pub extern "C" fn g7231_bare_enforce_lsp_stability(
     cosines: &[f32; 10],
     spacing_hz: f32,
     out: &mut [f32; 10],
@@ -98,7 +111,11 @@ pub extern "C" fn g7231_enforce_lsp_stability(
 }
 
 #[no_mangle]
-pub extern "C" fn g7231_weighting_taps(a: &[f32; 11], wz: &mut [f32; 10], wp: &mut [f32; 10]) -> u32
+pub extern "C" fn g7231_bare_weighting_taps(
+    a: &[f32; 11],
+    wz: &mut [f32; 10],
+    wp: &mut [f32; 10],
+) -> u32
     ensures status { λ r. ⌜ r ≡ weightingTaps (now (a .entry)) .status ⌝ }
     ensures zeros { λ r. ⌜ now (wz .exit) ≡ lent r (now (wz .entry)) (weightingTaps (now (a .entry)) .wz) ⌝ }
     ensures poles { λ r. ⌜ now (wp .exit) ≡ lent r (now (wp .entry)) (weightingTaps (now (a .entry)) .wp) ⌝ }
@@ -116,7 +133,7 @@ pub extern "C" fn g7231_weighting_taps(a: &[f32; 11], wz: &mut [f32; 10], wp: &m
 }
 
 #[no_mangle]
-pub extern "C" fn g7231_weight_subframe(
+pub extern "C" fn g7231_bare_weight_subframe(
     x: &[f32],
     wz: &[f32; 10],
     wp: &[f32; 10],
@@ -147,7 +164,7 @@ pub extern "C" fn g7231_weight_subframe(
 }
 
 #[no_mangle]
-pub extern "C" fn g7231_open_loop_pitch(wbuf: &[f32], half: usize, lag: &mut u32) -> u32
+pub extern "C" fn g7231_bare_open_loop_pitch(wbuf: &[f32], half: usize, lag: &mut u32) -> u32
     ensures status { λ r. ⌜ r ≡ openLoopPitch 142 (now (wbuf .entry)) half .status ⌝ }
     ensures lag { λ r. ⌜ now (lag .exit) ≡ lent r (now (lag .entry)) (openLoopPitch 142 (now (wbuf .entry)) half .lag) ⌝ }
 {
@@ -160,43 +177,43 @@ pub extern "C" fn g7231_open_loop_pitch(wbuf: &[f32], half: usize, lag: &mut u32
 }
 
 #[no_mangle]
-pub extern "C" fn g7231_lpc_to_lsp(a: &[f32; 11], lsp: &mut [f32; 10]) -> u32
+pub extern "C" fn g7231_bare_lpc_to_lsp(a: &[f32; 11], lsp: &mut [f32; 10]) -> u32
     ensures status { λ r. ⌜ r ≡ lpcToLsp (now (a .entry)) .status ⌝ }
-    ensures lines { λ r. ⌜ now (lsp .exit) ≡ lent r (now (lsp .entry)) (lpcToLsp (now (a .entry)) .lsp) ⌝ }
+    ensures lines { λ r. ⌜ now (lsp .exit) ≡ lent r (now (lsp .entry)) (lpcToLsp (now (a .entry)) .lines) ⌝ }
 {
     let given = *a;
     let answer = lsp::lpc_to_lsp(given);
     let status = answer.status;
     if status == 0 {
-        let lines = answer.lsp;
+        let lines = answer.lines;
         *lsp = lines;
     }
     status
 }
 
 #[no_mangle]
-pub extern "C" fn g7231_interpolate_lsp(
+pub extern "C" fn g7231_bare_interpolate_lsp(
     choice: usize,
     prev: &[f32; 10],
     cur: &[f32; 10],
     out: &mut [f32; 10],
 ) -> u32
     ensures status { λ r. ⌜ r ≡ interpolateLsp choice (now (prev .entry)) (now (cur .entry)) .status ⌝ }
-    ensures lines { λ r. ⌜ now (out .exit) ≡ lent r (now (out .entry)) (interpolateLsp choice (now (prev .entry)) (now (cur .entry)) .lsp) ⌝ }
+    ensures lines { λ r. ⌜ now (out .exit) ≡ lent r (now (out .entry)) (interpolateLsp choice (now (prev .entry)) (now (cur .entry)) .lines) ⌝ }
 {
     let last = *prev;
     let this = *cur;
     let answer = lsp_filter::interpolate_lsp(choice, last, this);
     let status = answer.status;
     if status == 0 {
-        let lines = answer.lsp;
+        let lines = answer.lines;
         *out = lines;
     }
     status
 }
 
 #[no_mangle]
-pub extern "C" fn g7231_lsp_to_lpc(lsp: &[f32; 10], a: &mut [f32; 11]) -> u32
+pub extern "C" fn g7231_bare_lsp_to_lpc(lsp: &[f32; 10], a: &mut [f32; 11]) -> u32
     ensures status { λ r. ⌜ r ≡ lspToLpc (now (lsp .entry)) .status ⌝ }
     ensures coefficients { λ r. ⌜ now (a .exit) ≡ lent r (now (a .entry)) (lspToLpc (now (lsp .entry)) .a) ⌝ }
 {
@@ -211,7 +228,7 @@ pub extern "C" fn g7231_lsp_to_lpc(lsp: &[f32; 10], a: &mut [f32; 11]) -> u32
 }
 
 #[no_mangle]
-pub extern "C" fn g7231_harmonic_noise_shaping(
+pub extern "C" fn g7231_bare_harmonic_noise_shaping(
     wbuf: &[f32],
     place: usize,
     l_ol: u32,
@@ -233,7 +250,7 @@ pub extern "C" fn g7231_harmonic_noise_shaping(
 }
 
 #[no_mangle]
-pub extern "C" fn g7231_quantise_lsp_freq(
+pub extern "C" fn g7231_bare_quantise_lsp_freq(
     p: &[f32; 10],
     prev: &[f32; 10],
     index: &mut u32,
@@ -256,22 +273,26 @@ pub extern "C" fn g7231_quantise_lsp_freq(
 }
 
 #[no_mangle]
-pub extern "C" fn g7231_decode_lsp_freq(index: u32, prev: &[f32; 10], set: &mut [f32; 10]) -> u32
+pub extern "C" fn g7231_bare_decode_lsp_freq(
+    index: u32,
+    prev: &[f32; 10],
+    set: &mut [f32; 10],
+) -> u32
     ensures status { λ r. ⌜ r ≡ decodeLspFreq lspRows index (now (prev .entry)) .status ⌝ }
-    ensures lines { λ r. ⌜ now (set .exit) ≡ lent r (now (set .entry)) (decodeLspFreq lspRows index (now (prev .entry)) .set) ⌝ }
+    ensures lines { λ r. ⌜ now (set .exit) ≡ lent r (now (set .entry)) (decodeLspFreq lspRows index (now (prev .entry)) .lines) ⌝ }
 {
     let last = *prev;
     let answer = spec_lsp::decode::decode_lsp_freq(index, last);
     let status = answer.status;
     if status == 0 {
-        let lines = answer.set;
+        let lines = answer.lines;
         *set = lines;
     }
     status
 }
 
 #[no_mangle]
-pub extern "C" fn g7231_run_combined(
+pub extern "C" fn g7231_bare_run_combined(
     syn: &mut [f32; 10],
     wz_mem: &mut [f32; 10],
     wp_mem: &mut [f32; 10],
@@ -324,7 +345,7 @@ pub extern "C" fn g7231_run_combined(
 }
 
 #[no_mangle]
-pub extern "C" fn g7231_combined_impulse_response(
+pub extern "C" fn g7231_bare_combined_impulse_response(
     aq: &[f32; 11],
     wz: &[f32; 10],
     wp: &[f32; 10],

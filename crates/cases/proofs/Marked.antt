@@ -12,10 +12,11 @@ use Rattle.quarter.specs.Quarter.{quarterRows, quarter, entry}
 use Rattle.cosine.specs.Cosine.{folded, blend, scaled, cosine}
 use Rattle.cosine.specs.Step.{held, above, step}
 use Rattle.spec_tables.specs.Codebook.{lspBand0, lspBand1, lspBand2, lspRows}
+use Rattle.spec_tables.specs.Rows.{rowFrom}
 use Rattle.spec_tables.specs.Window.{windowRows, hammingWindow}
 use Rattle.row_search.specs.Error.{squared, term, rowError}
 use Rattle.row_search.specs.Search.{better, among}
-use Rattle.spec_lsp.specs.Decode.{predicted, rebuilt, bandRow, rowNumbers, decoded, decodeLspFreq}
+use Rattle.spec_lsp.specs.Decode.{predicted, rebuilt, rowNumbers, decoded, decodeLspFreq}
 use Rattle.spec_lsp.specs.Quantise.{smaller, larger, nearest, weightOf, weights, target, chosen, indexOf, quantiseBy, quantiseLspFreq}
 use Rattle.lsp_filter.specs.Interpolate.{previousWeight, currentWeight, weighed, interpolateLsp}
 use Rattle.lsp_filter.specs.Polynomial.{coefficient, quadratic, side, plusFactor, minusFactor, halfSum, lspToLpc}
@@ -25,18 +26,20 @@ use Rattle.lpc.specs.Analysis.{trivial, setOf, lpcAnalysis}
 use Rattle.cases.specs.Marked.{Holds, splits, decodes, quantises, dc, dc+8, dc+3, set66051, marked, All}
 
 decodes-66051 : Holds (decodes 66051 dc set66051)
-unfolding flatten neg round add sub mul div ofInt lt eq le single double table times all rounded quarterRows quarter entry folded blend scaled cosine held above step lspBand0 lspBand1 lspBand2 lspRows windowRows hammingWindow squared term rowError better among predicted rebuilt bandRow rowNumbers decoded decodeLspFreq smaller larger nearest weightOf weights target chosen indexOf quantiseBy quantiseLspFreq previousWeight currentWeight weighed interpolateLsp coefficient quadratic side plusFactor minusFactor halfSum lspToLpc gate atMostOne passes windowed lagged correlation lagWeight corrected sums trivial setOf lpcAnalysis
+unfolding flatten neg round add sub mul ofInt lt single table all lspBand0 lspBand1 lspBand2 lspRows rowFrom
+    predicted rebuilt rowNumbers decoded decodeLspFreq
 decodes-66051 = refl
 
 quantises-66051 : Holds (quantises set66051 dc 66051)
-unfolding flatten neg round add sub mul div ofInt lt eq le single double table times all rounded quarterRows quarter entry folded blend scaled cosine held above step lspBand0 lspBand1 lspBand2 lspRows windowRows hammingWindow squared term rowError better among predicted rebuilt bandRow rowNumbers decoded decodeLspFreq smaller larger nearest weightOf weights target chosen indexOf quantiseBy quantiseLspFreq previousWeight currentWeight weighed interpolateLsp coefficient quadratic side plusFactor minusFactor halfSum lspToLpc gate atMostOne passes windowed lagged correlation lagWeight corrected sums trivial setOf lpcAnalysis
+unfolding flatten neg round add sub mul div ofInt lt eq le single double table times all rounded quarterRows quarter entry folded blend scaled cosine held above step lspBand0 lspBand1 lspBand2 lspRows windowRows hammingWindow squared term rowError better among predicted rebuilt rowFrom rowNumbers decoded decodeLspFreq smaller larger nearest weightOf weights target chosen indexOf quantiseBy quantiseLspFreq previousWeight currentWeight weighed interpolateLsp coefficient quadratic side plusFactor minusFactor halfSum lspToLpc gate atMostOne passes windowed lagged correlation lagWeight corrected sums trivial setOf lpcAnalysis
 quantises-66051 = refl
 
 decodes-0 : Holds (decodes 0 dc+8 dc+3)
-unfolding flatten neg round add sub mul div ofInt lt eq le single double table times all rounded quarterRows quarter entry folded blend scaled cosine held above step lspBand0 lspBand1 lspBand2 lspRows windowRows hammingWindow squared term rowError better among predicted rebuilt bandRow rowNumbers decoded decodeLspFreq smaller larger nearest weightOf weights target chosen indexOf quantiseBy quantiseLspFreq previousWeight currentWeight weighed interpolateLsp coefficient quadratic side plusFactor minusFactor halfSum lspToLpc gate atMostOne passes windowed lagged correlation lagWeight corrected sums trivial setOf lpcAnalysis
+unfolding flatten neg round add sub mul ofInt lt single table all lspBand0 lspBand1 lspBand2 lspRows rowFrom
+    predicted rebuilt rowNumbers decoded decodeLspFreq
 decodes-0 = refl
 
 pub marked-hold : All marked
-unfolding flatten neg round add sub mul div ofInt lt eq le single double table times all rounded quarterRows quarter entry folded blend scaled cosine held above step lspBand0 lspBand1 lspBand2 lspRows windowRows hammingWindow squared term rowError better among predicted rebuilt bandRow rowNumbers decoded decodeLspFreq smaller larger nearest weightOf weights target chosen indexOf quantiseBy quantiseLspFreq previousWeight currentWeight weighed interpolateLsp coefficient quadratic side plusFactor minusFactor halfSum lspToLpc gate atMostOne passes windowed lagged correlation lagWeight corrected sums trivial setOf lpcAnalysis
+unfolding flatten neg round add sub mul div ofInt lt eq le single double table times all rounded quarterRows quarter entry folded blend scaled cosine held above step lspBand0 lspBand1 lspBand2 lspRows windowRows hammingWindow squared term rowError better among predicted rebuilt rowFrom rowNumbers decoded decodeLspFreq smaller larger nearest weightOf weights target chosen indexOf quantiseBy quantiseLspFreq previousWeight currentWeight weighed interpolateLsp coefficient quadratic side plusFactor minusFactor halfSum lspToLpc gate atMostOne passes windowed lagged correlation lagWeight corrected sums trivial setOf lpcAnalysis
 marked-hold =
     (refl, (refl, (decodes-66051, (quantises-66051, (decodes-0, (refl, (refl, (refl, (refl, (refl, (refl, (refl, (refl, (refl, (refl, (refl, (refl, (refl, (refl, ((refl, refl), tt))))))))))))))))))))

@@ -57,9 +57,9 @@ pub data Case : Type 0 where
 
 abbrev pub Holds : Case → Type 0
 Holds (splits index bands) = split index ≡ bands
-Holds (decodes index prev set) = decodeLspFreq lspRows index prev ≡ record { status = 0; set = set }
+Holds (decodes index prev set) = decodeLspFreq lspRows index prev ≡ record { status = 0; lines = set }
 Holds (quantises p prev index) = quantiseLspFreq lspRows p prev .index ≡ index
-Holds (weighs choice a b c) = interpolateLsp choice (replicate 10 (single a 1)) (replicate 10 (single b 1)) ≡ record { status = 0; lsp = replicate 10 (single c 1) }
+Holds (weighs choice a b c) = interpolateLsp choice (replicate 10 (single a 1)) (replicate 10 (single b 1)) ≡ record { status = 0; lines = replicate 10 (single c 1) }
 Holds (filters lsp a) = lspToLpc lsp ≡ record { status = 0; a = a }
 Holds (cosineOf k c) = cosine k ≡ c
 Holds (stepOf c k) = step (held c) ≡ k

@@ -16,12 +16,15 @@ use Rattle.float.specs.Vector.{at}
 use Rattle.float.proofs.Table.{same-table}
 use Rattle.float.proofs.Loop.{over-more}
 use Rattle.combined.specs.declared.CombinedMem.{CombinedMem}
-use Rattle.combined.specs.Memory.{reach, last, shaped}
+use Rattle.combined.specs.Memory.{reach, last}
+use Rattle.combined.specs.inner.Shaped.{shaped}
 use Rattle.combined.specs.Cascade.{Settings, Cascade, back, sample, start, cascaded}
 use Rattle.combined.specs.Run.{after}
 
 -- one more output: those before it do not change, since each looks back
-grown : (lag : ℕ) (beta : Float) (p out : List Float) (f : Float) (n : ℕ) → 1 ≤ lag → length p ≡ reach + n → out ≡ table n (shaped lag beta p) → out ++ ((f ⊖ beta ⊗ back lag p) ∷ []) ≡ table (suc n) (shaped lag beta (p ++ (f ∷ [])))
+grown : (lag : ℕ) (beta : Float) (p out : List Float) (f : Float) (n : ℕ) → 1 ≤ lag → length p ≡ reach + n
+    → out ≡ table n (shaped lag beta p)
+    → out ++ ((f ⊖ beta ⊗ back lag p) ∷ []) ≡ table (suc n) (shaped lag beta (p ++ (f ∷ [])))
 unfolding table
 grown lag beta p out f n h l e =
     let here : at (p ++ (f ∷ [])) (n + reach) ≡ f = getD-at p f [] nan (n + reach) (omega arith) in
@@ -50,7 +53,8 @@ module _ (q : Settings) (input : List Float) (mem : CombinedMem) (full : length 
   harmonic-history (suc n) = rw (← add-one n, cascaded-more n) (take-append-le reach (cascaded q input mem n .harmonic) _ (omega (arith, harmonic-length n)) ∙ harmonic-history n)
 
   -- all outputs from all harmonic inputs
-  pub out-shaped : 1 ≤ q .lag → (n : ℕ) → cascaded q input mem n .out ≡ table n (shaped (q .lag) (q .beta) (cascaded q input mem n .harmonic))
+  pub out-shaped : 1 ≤ q .lag → (n : ℕ)
+      → cascaded q input mem n .out ≡ table n (shaped (q .lag) (q .beta) (cascaded q input mem n .harmonic))
   unfolding times sample table
   out-shaped h zero = refl
   out-shaped h (suc n) = rw (← add-one n, cascaded-more n) (grown (q .lag) (q .beta) (cascaded q input mem n .harmonic) (cascaded q input mem n .out) _ n h (harmonic-length n) (out-shaped h n))

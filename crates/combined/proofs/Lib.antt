@@ -1,6 +1,5 @@
--- Laws of the cascade, of its delay lines and of its history.
+-- Laws of the cascade, of its delays and of its history.
 pub mod Harmonic
 pub mod History
 pub mod Stages
 pub mod Cascaded
-pub mod Kept

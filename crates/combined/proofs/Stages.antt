@@ -1,4 +1,4 @@
--- The delay lines of the cascade, stage by stage: what the line of synthesis, the line of synthesised samples before the weighting and the line of weighted
+-- The delays of the cascade, stage by stage: what the delay of synthesis, the delay of synthesised samples before the weighting and the delay of weighted
 -- samples hold of the definition's state after n samples, and how each goes on by one. Assumes nothing.
 use mathlib.Core.Path.{_≡_, refl, sym, ap, _∙_}
 use mathlib.Core.List.{List, [], _∷_, _++_, append-assoc}
@@ -11,8 +11,8 @@ use lib.Ieee.{Float, nan}
 use Rattle.float.specs.Vector.{at}
 use Rattle.float.proofs.Loop.{over-more}
 use Rattle.weighting.specs.Filter.{weighted}
-use Rattle.weighting.specs.Line.{behind}
-use Rattle.weighting.proofs.Line.{behind-next, behind-set, behind-more}
+use Rattle.weighting.specs.inner.Delay.{behind}
+use Rattle.weighting.proofs.Delay.{behind-next, behind-set, behind-more}
 use Rattle.combined.specs.declared.CombinedMem.{CombinedMem}
 use Rattle.combined.specs.Cascade.{Settings, Cascade, synthesised, sample, start, cascaded}
 
@@ -21,19 +21,19 @@ module _ (q : Settings) (input : List Float) (mem : CombinedMem) where
   abbrev pub synthetic : ℕ → Float
   synthetic n = synthesised (q .aq) (at input n) (cascaded q input mem n .syn)
 
-  -- the line of synthesis: its memory, and the samples left
+  -- the delay of synthesis: its memory, and the samples left
   pub record Synthesis (n : ℕ) (syn : List Float) : Type 0 where
     pub long : length syn ≡ 70
     pub memory : behind n syn ≡ cascaded q input mem n .syn
     pub left : drop (n + 10) syn ≡ drop n input
 
-  -- the line before the weighting: its memory, and the sample that is next
+  -- the delay before the weighting: its memory, and the sample that is next
   pub record Fed (n : ℕ) (xs : List Float) : Type 0 where
     pub long : length xs ≡ 70
     pub memory : behind n xs ≡ cascaded q input mem n .wz
     pub next : at xs (n + 10) ≡ synthetic n
 
-  -- the line of weighted samples: its memory, and the harmonic inputs so far
+  -- the delay of weighted samples: its memory, and the harmonic inputs so far
   pub record Weighed (n : ℕ) (fs : List Float) : Type 0 where
     pub long : length fs ≡ 70
     pub memory : behind n fs ≡ cascaded q input mem n .wp
@@ -69,14 +69,16 @@ module _ (q : Settings) (input : List Float) (mem : CombinedMem) (n : ℕ) (h : 
     unfolding sample
     fed-memory = behind-next n xs ∙ rw (more, r .next, r .memory)
 
-    pub fed-more : (t : Float) → n + 1 < 60 → t ≡ synthetic q input mem (n + 1) → Fed q input mem (n + 1) (set xs (n + 1 + 10) t)
+    pub fed-more : (t : Float) → n + 1 < 60 → t ≡ synthetic q input mem (n + 1)
+        → Fed q input mem (n + 1) (set xs (n + 1 + 10) t)
     fed-more t b e = record {
       long = length-set xs (n + 1 + 10) t ∙ r .long;
       memory = behind-set (n + 1) (n + 1 + 10) xs t (omega arith) ∙ fed-memory;
       next = getD-set-same xs (n + 1 + 10) t nan (omega (arith, r .long)) ∙ e;
     }
 
-    pub weighed-more : (fs : List Float) (s f : Float) → Weighed q input mem n fs → s ≡ at xs (n + 10) → f ≡ weighted (q .wz) (q .wp) s (behind n xs) (behind n fs) → Weighed q input mem (n + 1) (set fs (n + 10) f)
+    pub weighed-more : (fs : List Float) (s f : Float) → Weighed q input mem n fs → s ≡ at xs (n + 10)
+        → f ≡ weighted (q .wz) (q .wp) s (behind n xs) (behind n fs) → Weighed q input mem (n + 1) (set fs (n + 10) f)
     unfolding sample
     weighed-more fs s f w d e =
         let c = cascaded q input mem n in

@@ -1,11 +1,10 @@
 -- The memory of the combined filter (§2.12): ten values each of synthesis, of the weighting filter's zeros and of its poles, most recent first, and the
 -- history of harmonic inputs, oldest first. Document 01, B60, B61 and I7. Assumes nothing.
-use Prim.Native.Nat.{ℕ, _+_, _-_}
+use Prim.Native.Nat.{ℕ, _-_}
 use mathlib.Core.List.{List, [], _∷_}
 use lib.ListN.{length, drop}
 use lib.Ieee.{Float}
-use Rattle.float.specs.Single.{_⊖_, _⊗_}
-use Rattle.float.specs.Vector.{at, zeros}
+use Rattle.float.specs.Vector.{zeros}
 use Rattle.combined.specs.declared.CombinedMem.{CombinedMem}
 
 -- how many harmonic inputs the history holds: the longest lag
@@ -18,10 +17,6 @@ last n xs = drop (length xs - n) xs
 
 abbrev pub atRest : CombinedMem
 atRest = record { syn = zeros 10; wz = zeros 10; wp = zeros 10; «p_hist» = zeros reach }
-
--- the history with the harmonic inputs of a subframe after it, shaped at sample n
-abbrev pub shaped : ℕ → Float → List Float → ℕ → Float
-shaped lag beta p n = at p (n + reach) ⊖ beta ⊗ at p (n + reach - lag)
 
 -- every float of a memory
 abbrev pub floats : CombinedMem → List (List Float)

@@ -10,6 +10,7 @@ use Rattle.float.specs.Refusal.{any, first, answer}
 use Rattle.float.specs.Vector.{zeros}
 use Rattle.combined.specs.declared.CombinedMem.{CombinedMem}
 use Rattle.combined.specs.declared.Combined.{Combined}
+use Rattle.combined.specs.declared.CombinedOut.{CombinedOut}
 use Rattle.combined.specs.Memory.{reach, last, floats}
 use Rattle.combined.specs.Cascade.{Settings, Cascade, cascaded}
 
@@ -32,5 +33,13 @@ wrongLag lag = ltb lag 18 || ltb reach lag
 abbrev pub wild : Settings → List Float → CombinedMem → Bool
 wild q input mem = any notFinite (floats mem) || any notFinite (input ∷ q .aq ∷ q .wz ∷ q .wp ∷ (q .beta ∷ []) ∷ [])
 
+-- 4 for a wrong lag; 5 for a float that is not finite
+abbrev pub combinedRefusals : Settings → List Float → CombinedMem → List (ℕ × Bool)
+combinedRefusals q input mem = (4, wrongLag (q .lag)) ∷ (5, wild q input mem) ∷ []
+
 unfoldable pub runCombined : Settings → List Float → CombinedMem → Combined
-runCombined q input mem = answer (first ((4, wrongLag (q .lag)) ∷ (5, wild q input mem) ∷ [])) (refusal mem) (done (cascaded q input mem 60))
+runCombined q input mem = answer (first (combinedRefusals q input mem)) (refusal mem) (done (cascaded q input mem 60))
+
+-- the answer without the memory
+abbrev pub answered : Combined → CombinedOut
+answered r = record { status = r .status; out = r .out }

@@ -5,13 +5,14 @@ ghost use mathlib.Core.List.{_∷_, [], _++_};
 ghost use Prim.Native.Nat.{_<_, _≤_};
 ghost use lib.ListN.{take, drop};
 ghost use Rattle.float.specs.Finite.{notFinite};
-ghost use Rattle.float.specs.Refusal.{any};
+ghost use Rattle.float.specs.Refusal.{any, first};
 ghost use Rattle.float.specs.Single.{_⊖_, _⊗_};
 ghost use Rattle.float.specs.Table.{table};
-ghost use Rattle.weighting.specs.Line.{behind};
-ghost use Rattle.combined.specs.Memory.{reach, atRest, shaped, floats};
+ghost use Rattle.weighting.specs.inner.Delay.{behind};
+ghost use Rattle.combined.specs.Memory.{reach, atRest, floats};
 ghost use Rattle.combined.specs.Cascade.{settings, synthesised, cascaded};
-ghost use Rattle.combined.specs.Run.{done, refusal, runCombined};
+ghost use Rattle.combined.specs.Run.{done, refusal, combinedRefusals, runCombined};
+ghost use Rattle.combined.specs.inner.Shaped.{shaped};
 
 // How many harmonic inputs the history holds: the longest lag.
 pub const REACH: usize = 145;
@@ -44,6 +45,12 @@ pub struct Combined {
     pub mem: CombinedMem,
 }
 
+// The answer without the memory: where that is lent, or the filter starts from rest.
+pub struct CombinedOut {
+    pub status: u32,
+    pub out: [f32; 60],
+}
+
 // A product taken from a sum.
 fn take_product(s: f32, a: f32, b: f32) -> f32
     ensures { λ r. ⌜ r ≡ s ⊖ a ⊗ b ⌝ }
@@ -74,13 +81,13 @@ fn start_history(p_hist: [f32; REACH]) -> [f32; REACH + 60]
     p
 }
 
-// All harmonic inputs: the history, and the samples of a delay line.
-fn harmonic_inputs(p_hist: [f32; REACH], line: [f32; 70]) -> [f32; REACH + 60]
-    ensures { λ r. ⌜ r ≡ «p_hist» ++ drop 10 line ⌝ }
+// All harmonic inputs: the history, and the samples of a delay.
+fn harmonic_inputs(p_hist: [f32; REACH], delay: [f32; 70]) -> [f32; REACH + 60]
+    ensures { λ r. ⌜ r ≡ «p_hist» ++ drop 10 delay ⌝ }
 {
     let mut p = start_history(p_hist);
     for i in 0..60 {
-        p[i + REACH] = line[i + 10];
+        p[i + REACH] = delay[i + 10];
     }
     p
 }
@@ -108,7 +115,7 @@ fn last_inputs(p: [f32; REACH + 60]) -> [f32; REACH]
     p_hist
 }
 
-// One subframe. Each stage has a delay line in which its samples replace those of the input, and nothing is moved until the subframe ends. Synthesis
+// One subframe. Each stage has a delay in which its samples replace those of the input, and nothing is moved until the subframe ends. Synthesis
 // is one sample ahead of the weighting, so that the two sums, each a chain of its own, run side by side.
 fn run(
     mem: CombinedMem,
@@ -126,9 +133,9 @@ fn run(
     let wz_mem = mem.wz;
     let wp_mem = mem.wp;
     let p_hist = mem.p_hist;
-    let mut syn = weighting::delay_line(syn_mem, &input);
-    let mut xs = weighting::delay_line(wz_mem, &input);
-    let mut fs = weighting::delay_line(wp_mem, &input);
+    let mut syn = weighting::delayed(syn_mem, &input);
+    let mut xs = weighting::delayed(wz_mem, &input);
+    let mut fs = weighting::delayed(wp_mem, &input);
     let x = syn[10];
     let s = synthesise_sample(x, 0, &aq, &syn);
     syn[10] = s;
@@ -198,8 +205,32 @@ fn given_finite(input: [f32; 60], aq: [f32; 11], wz: [f32; 10], wp: [f32; 10], b
     float::all_finite(&input) & (float::all_finite(&aq) & taps)
 }
 
-// One subframe through the filter. The memory comes back; on a refusal it is as given. The floats are tested after the filter has run and before anything
-// is answered, as in `weighting::weight_subframe`, while its last sums come in.
+// The first refusal due: 4 for a lag outside 18..145; 5 for any float.
+fn check_combined(
+    mem: CombinedMem,
+    input: [f32; 60],
+    aq: [f32; 11],
+    wz: [f32; 10],
+    wp: [f32; 10],
+    lag: u32,
+    beta: f32,
+) -> u32
+    ensures { λ r. ⌜ r ≡ first (combinedRefusals (settings aq wz wp lag beta) input mem) ⌝ }
+{
+    if lag < 18 {
+        return 4;
+    }
+    if lag > 145 {
+        return 4;
+    }
+    let finite = memory_finite(mem) & given_finite(input, aq, wz, wp, beta);
+    if !finite {
+        return 5;
+    }
+    0
+}
+
+// One subframe through the filter. The memory comes back; on a refusal it is as given.
 pub fn run_combined(
     mem: CombinedMem,
     input: [f32; 60],
@@ -211,18 +242,9 @@ pub fn run_combined(
 ) -> Combined
     ensures { λ r. ⌜ r ≡ runCombined (settings aq wz wp lag beta) input mem ⌝ }
 {
-    if lag < 18 {
-        return refused(4, mem);
+    let status = check_combined(mem, input, aq, wz, wp, lag, beta);
+    if status != 0 {
+        return refused(status, mem);
     }
-    if lag > 145 {
-        return refused(4, mem);
-    }
-    let after = run(mem, input, aq, wz, wp, lag, beta);
-    let held = memory_finite(mem);
-    let given = given_finite(input, aq, wz, wp, beta);
-    let finite = held & given;
-    if !finite {
-        return refused(5, mem);
-    }
-    after
+    run(mem, input, aq, wz, wp, lag, beta)
 }

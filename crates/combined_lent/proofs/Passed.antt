@@ -43,6 +43,17 @@ Machine = List Val × (List Val × (List Val × (List Val × (List Val × (List 
 abbrev pub machine : Values → Machine
 machine x = (mach (x .0) ∷ [], (mach (x .1 .0) ∷ [], (mach (x .1 .1 .0) ∷ [], (mach (x .1 .1 .1 .0) ∷ [], (vint w32 (x .1 .1 .1 .1 .0) ∷ [], (vfloat binary32 (x .1 .1 .1 .1 .1 .0) ∷ [], tt))))))
 
+-- the same in the order in which they are passed
+abbrev pub passed : Values → List Val
+passed x =
+    mach (x .0)
+    ∷ mach (x .1 .0)
+    ∷ mach (x .1 .1 .0)
+    ∷ mach (x .1 .1 .1 .0)
+    ∷ vint w32 (x .1 .1 .1 .1 .0)
+    ∷ vfloat binary32 (x .1 .1 .1 .1 .1 .0)
+    ∷ []
+
 -- what is known of them
 pub record Fit (x : Values) : Type 0 where
   pub input : Is (Array f32 60) (x .0) (mach (x .0) ∷ [])

@@ -1,15 +1,10 @@
 // The combined filter over a memory that the caller lends.
 ghost use mathlib.Core.Path.{_≡_};
 ghost use Rattle.combined.specs.Cascade.{settings};
-ghost use Rattle.combined.specs.Run.{runCombined};
-ghost use Rattle.combined_lent.specs.Answered.{answered};
+ghost use Rattle.combined.specs.Run.{runCombined, answered};
 use combined::Combined;
 use combined::CombinedMem;
-
-pub struct CombinedOut {
-    pub status: u32,
-    pub out: [f32; 60],
-}
+use combined::CombinedOut;
 
 // One subframe through the filter, whose memory is lent. It is altered only where nothing is refused.
 pub fn run_combined_lent(

@@ -1,27 +1,20 @@
 -- Ten frequencies to cosines, and ten cosines to frequencies.
 -- §2.6 of the Recommendation; document 01, B20 to B22, B34 and B35. Assumes nothing.
 use mathlib.Core.List.{List, [], _∷_, map}
-use mathlib.Core.Bool.{false}
-use Prim.Native.Nat.{ℕ}
-use lib.IntN.{pos}
-use lib.ListN.{replicate}
-use lib.Ieee.{Float, fin}
+use lib.Ieee.{Float}
 use Rattle.float.specs.Refusal.{first, answer}
 use Rattle.float.specs.Finite.{notFinite, anyExceeds}
 use Rattle.float.specs.Single.{single}
+use Rattle.float.specs.Lines.{refusedLines}
+use Rattle.float.specs.declared.Lines.{Lines}
 use Rattle.cosine.specs.Cosine.{cosineSingle}
 use Rattle.cosine.specs.Step.{held, step, stepOfFrequency, frequency}
-use Rattle.convert.specs.declared.Converted.{Converted}
-
--- a refusal: its number, and ten zeros
-abbrev pub refusedLines : ℕ → Converted
-refusedLines n = record { status = n; lines = replicate 10 (fin false 0 (pos 0)) }
 
 -- step = the greatest whole number ≤ 512 × |f|; then its cosine
 abbrev pub cosineOf : Float → Float
 cosineOf f = cosineSingle (stepOfFrequency f)
 
-unfoldable pub freqToCosines : List Float → Converted
+unfoldable pub freqToCosines : List Float → Lines
 freqToCosines freq =
     answer (first ((5, notFinite freq) ∷ (6, anyExceeds (single 65536 1) freq) ∷ [])) refusedLines
     (record { status = 0; lines = map cosineOf freq })
@@ -30,7 +23,7 @@ freqToCosines freq =
 abbrev pub freqOf : Float → Float
 freqOf c = frequency (step (held c))
 
-unfoldable pub cosinesToFreq : List Float → Converted
+unfoldable pub cosinesToFreq : List Float → Lines
 cosinesToFreq cosines =
     answer (first ((5, notFinite cosines) ∷ [])) refusedLines
     (record { status = 0; lines = map freqOf cosines })

@@ -7,23 +7,10 @@ ghost use Rattle.float.specs.Refusal.{all};
 ghost use Rattle.float.specs.Finite.{anyExceeds};
 ghost use Rattle.float.specs.Single.{single};
 ghost use Rattle.quarter.specs.Quarter.{quarterTable};
-ghost use Rattle.convert.specs.Convert.{refusedLines, cosineOf, freqToCosines, freqOf, cosinesToFreq};
+ghost use Rattle.convert.specs.Convert.{cosineOf, freqToCosines, freqOf, cosinesToFreq};
+use float::Lines;
 
-// Ten lines, or the refusal's number and zeros.
-pub struct Converted {
-    pub status: u32,
-    pub lines: [f32; 10],
-}
-
-fn refused_lines(status: u32) -> Converted
-    ensures { λ r. ⌜ r ≡ refusedLines status ⌝ }
-{
-    Converted {
-        status,
-        lines: [0.0; 10],
-    }
-}
-
+// The work of each operation, for a set that is not refused.
 fn cosines_in(t: &[u32; 2049], freq: [f32; 10]) -> [f32; 10]
     requires { ⌜ now t ≡ quarterTable ⌝ ∗ ⌜ anyExceeds (single 65536 1) freq ≡ false ⌝ }
     ensures { λ r. ⌜ r ≡ map cosineOf freq ⌝ }
@@ -39,18 +26,16 @@ fn cosines_in(t: &[u32; 2049], freq: [f32; 10]) -> [f32; 10]
 }
 
 // Each frequency's cosine by the cosine rule. Refusals: 5; 6 above 65,536 in magnitude.
-pub fn lsp_freq_to_cosines(freq: [f32; 10]) -> Converted
+pub fn lsp_freq_to_cosines(freq: [f32; 10]) -> Lines
     ensures { λ r. ⌜ r ≡ freqToCosines freq ⌝ }
 {
-    if !float::all_finite(&freq) {
-        return refused_lines(5);
-    }
-    if float::any_exceeds(&freq, 65536.0) {
-        return refused_lines(6);
+    let status = float::check_bounded(&freq, 65536.0);
+    if status != 0 {
+        return float::refused_lines(status);
     }
     let t = quarter::entries();
     let lines = cosines_in(&t, freq);
-    Converted { status: 0, lines }
+    Lines { status: 0, lines }
 }
 
 fn freqs_in(t: &[u32; 2049], cosines: [f32; 10]) -> [f32; 10]
@@ -68,13 +53,14 @@ fn freqs_in(t: &[u32; 2049], cosines: [f32; 10]) -> [f32; 10]
 }
 
 // Each cosine's step as a frequency. Refusals: 5.
-pub fn lsp_cosines_to_freq(cosines: [f32; 10]) -> Converted
+pub fn lsp_cosines_to_freq(cosines: [f32; 10]) -> Lines
     ensures { λ r. ⌜ r ≡ cosinesToFreq cosines ⌝ }
 {
-    if !float::all_finite(&cosines) {
-        return refused_lines(5);
+    let status = float::check_finite(&cosines);
+    if status != 0 {
+        return float::refused_lines(status);
     }
     let t = quarter::entries();
     let lines = freqs_in(&t, cosines);
-    Converted { status: 0, lines }
+    Lines { status: 0, lines }
 }

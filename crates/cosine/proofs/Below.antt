@@ -17,7 +17,7 @@ use Rattle.float.specs.Finite.{power, exceeds}
 use Rattle.float.proofs.Bound.{magnitude, no-infinity}
 use Rattle.float.proofs.Order.{le-values, values-le}
 use Rattle.cosine.specs.Step.{wholePart}
-use Rattle.cosine.specs.Search.{wholeBelow}
+use Rattle.cosine.specs.inner.Search.{wholeBelow}
 use Rattle.cosine.proofs.Whole.{scale, below-zero, neg-value, up46, zero-double, whole-le}
 
 -- ---- in whole numbers

@@ -8,7 +8,8 @@ use lib.IntN.{ℤ, pos, negsuc, negℤ, _+ℤ_, _*ℤ_, *ℤ-zero, +ℤ-idr, pos
 use Rattle.quarter.specs.Quarter.{quarter, entry}
 use Rattle.quarter.proofs.Entry.{entry-low, mirror}
 use Rattle.quarter.proofs.Fall.{first, last, fall, lowers}
-use Rattle.cosine.specs.Cosine.{blend, low}
+use Rattle.cosine.specs.Cosine.{blend}
+use Rattle.cosine.specs.inner.Low.{low}
 
 -- ---- a sum of two products, positive or negative
 plus : (a b c d : ℕ) → pos a *ℤ pos b +ℤ pos c *ℤ pos d ≡ pos (a * b + c * d)

@@ -12,7 +12,8 @@ use lib.Ieee.Back.{round-whole}
 use lib.Ieee.Exact.{HasValue, round-exact}
 use Rattle.float.proofs.Rounded.{round-neg}
 use Rattle.float.proofs.Product.{div-value}
-use Rattle.cosine.specs.Cosine.{folded, blend, low, scaled, cosine}
+use Rattle.cosine.specs.Cosine.{folded, blend, scaled, cosine}
+use Rattle.cosine.specs.inner.Low.{low}
 use Rattle.cosine.proofs.Blend.{blend-low, blend-high, low-le, low-pos}
 
 -- ---- a whole number of at most 2^42, over 2^42

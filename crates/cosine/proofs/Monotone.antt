@@ -9,7 +9,8 @@ use lib.Pow.{pow-pos}
 use lib.Ieee.{Float, le}
 use lib.Ieee.Exact.{HasValue}
 use Rattle.float.proofs.Order.{Under, le-values}
-use Rattle.cosine.specs.Cosine.{folded, low, cosine}
+use Rattle.cosine.specs.Cosine.{folded, cosine}
+use Rattle.cosine.specs.inner.Low.{low}
 use Rattle.cosine.proofs.Blend.{low-monotone, low-first, low-last}
 use Rattle.cosine.proofs.Exact.{value-low, value-high}
 

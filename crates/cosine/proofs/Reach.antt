@@ -16,9 +16,10 @@ use Rattle.float.specs.Single.{single}
 use Rattle.float.specs.Finite.{power, exceeds}
 use Rattle.float.proofs.Bound.{magnitude, no-infinity}
 use Rattle.float.proofs.Order.{Under, le-values, values-le}
-use Rattle.cosine.specs.Cosine.{low, cosine}
+use Rattle.cosine.specs.Cosine.{cosine}
+use Rattle.cosine.specs.inner.Low.{low}
 use Rattle.cosine.specs.Step.{held, above, reached, step, wholePart}
-use Rattle.cosine.specs.Search.{LowStep, wholeBelow}
+use Rattle.cosine.specs.inner.Search.{LowStep, wholeBelow}
 use Rattle.cosine.proofs.Blend.{low-monotone, low-first}
 use Rattle.cosine.proofs.Monotone.{near, far}
 use Rattle.cosine.proofs.Least.{Least, minus-one, step-is}

@@ -10,7 +10,7 @@ use native.Mathlib.Numerals.{add-one}
 use Rattle.quarter.specs.Quarter.{quarter}
 use Rattle.quarter.proofs.Fall.{first, last, fall, monotone, at-most}
 use Rattle.cosine.specs.Step.{above}
-use Rattle.cosine.specs.Search.{entryWithin, LowStep}
+use Rattle.cosine.specs.inner.Search.{entryWithin, LowStep}
 use Rattle.cosine.proofs.Blend.{low-between, low-monotone, low-le}
 use Rattle.cosine.proofs.Least.{Least, Upward, above-least}
 

@@ -1,11 +1,11 @@
 -- Cosine of a step: half a circle has 2^24 steps, and between two entries of the table it goes linearly.
 -- Document 01, C1, C2 and C5. Laws: proofs/Blend.antt, proofs/Exact.antt. Assumes nothing.
 use mathlib.Core.Bool.{cond, true, false}
-use Prim.Native.Nat.{ℕ, suc, _+_, _-_, _*_, _/_, _%_, _^_}
+use Prim.Native.Nat.{ℕ, suc, _-_, _/_, _%_, _^_}
 use lib.Dec.{leb}
 use lib.IntN.{ℤ, pos, negsuc, _+ℤ_, _*ℤ_}
 use lib.Ieee.{Float, binary64, round}
-use Rattle.quarter.specs.Quarter.{quarter, entry}
+use Rattle.quarter.specs.Quarter.{entry}
 use Rattle.float.specs.Narrow.{narrow}
 
 -- k mod 2^25, and above 2^24 subtracted from 2^25
@@ -15,10 +15,6 @@ folded k = cond (leb (k % 2 ^ 25) (2 ^ 24)) (k % 2 ^ 25) (2 ^ 25 - k % 2 ^ 25)
 -- with i = k / 4096 and rest s: entry(i) × (4096 − s) + entry(i+1) × s. Where s is 0 the second entry counts for nothing.
 unfoldable pub blend : ℕ → ℤ
 blend k = entry (k / 4096) *ℤ pos (4096 - k % 4096) +ℤ entry (suc (k / 4096)) *ℤ pos (k % 4096)
-
--- the same up to the quarter circle, where nothing is negative; above it the blend is −low (2^24 − k): proofs/Blend.antt
-unfoldable pub low : ℕ → ℕ
-low k = quarter (k / 4096) * (4096 - k % 4096) + quarter (suc (k / 4096)) * (k % 4096)
 
 -- z / 2^42 as a double
 unfoldable pub scaled : ℤ → Float

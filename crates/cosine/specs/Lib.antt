@@ -2,4 +2,4 @@
 pub mod Cosine
 pub mod Step
 pub mod Angle
-pub mod Search
+pub mod inner

@@ -7,9 +7,10 @@ ghost use lib.IntN.{pos};
 ghost use lib.Ieee.{fin, lt};
 ghost use Rattle.float.specs.Finite.{power, exceeds};
 ghost use Rattle.quarter.specs.Quarter.{quarter, quarterTable};
-ghost use Rattle.cosine.specs.Cosine.{folded, low, cosine, cosineSingle};
+ghost use Rattle.cosine.specs.Cosine.{folded, cosine, cosineSingle};
+ghost use Rattle.cosine.specs.inner.Low.{low};
 ghost use Rattle.cosine.specs.Step.{held, above, step, wholePart, stepOfFrequency, frequency};
-ghost use Rattle.cosine.specs.Search.{entryWithin, LowStep, wholeBelow};
+ghost use Rattle.cosine.specs.inner.Search.{entryWithin, LowStep, wholeBelow};
 ghost use Rattle.cosine.specs.Angle.{angle, stepOfAngle};
 
 // The step within half a circle that has the same cosine.

@@ -12,7 +12,7 @@ use lib.Pow.{pow-pos, pow-mono, shl-exact}
 use lib.Ieee.{nearest}
 use lib.Ieee.Fits.{nearest-le}
 use lib.Ieee.Nearest.{nearest-ge}
-use Rattle.float.specs.HalfEven.{halfEven}
+use Rattle.float.specs.inner.HalfEven.{halfEven}
 use Rattle.float.proofs.Compare.{Cmp, cmp}
 
 -- ---- with the whole part q, the remainder r, and the divisor u, twice h

@@ -27,6 +27,5 @@ mod Narrowing
 mod Signs
 pub mod Blocks
 pub mod Pattern
-pub mod Anywhere
 pub mod Parts
 pub mod Refusal

@@ -10,7 +10,7 @@ use lib.Dec.{lit<, lit≤}
 use lib.Pow.{pow-add, pow-pos, pow-mono, shl-lt}
 use lib.Ieee.{Float, binary32, binary64, units, ofBits, toBits}
 use lib.Ieee.Exact.{HasValue}
-use Rattle.float.specs.HalfEven.{halfEven}
+use Rattle.float.specs.inner.HalfEven.{halfEven}
 use Rattle.float.specs.Narrow.{rounded, narrow}
 use Rattle.float.proofs.HalfEven.{half, half-even-le, half-even-ge, half-even-zero, half-even-add}
 use Rattle.float.proofs.Patterns.{units-low, units-high}

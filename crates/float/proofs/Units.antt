@@ -15,7 +15,7 @@ use lib.Ieee.Exact.{units-val}
 use lib.Ieee.Fits.{round-is, two, reach, two-le-pos}
 use lib.Ieee.Nearest.{closest, closest-same}
 use lib.Ieee.Scale.{overflow}
-use Rattle.float.specs.HalfEven.{halfEven}
+use Rattle.float.specs.inner.HalfEven.{halfEven}
 use Rattle.float.proofs.HalfEven.{half}
 use Rattle.float.proofs.Value.{pattern, toBits-value}
 

@@ -5,8 +5,9 @@ pub mod Refusal
 pub mod Finite
 pub mod Single
 pub mod Double
-pub mod HalfEven
+pub mod inner
 pub mod Narrow
 pub mod Vector
+pub mod Lines
 pub mod Pattern
 pub mod Difference

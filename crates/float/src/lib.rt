@@ -4,12 +4,14 @@ mod bits;
 pub use bits::of_bits;
 pub use bits::same_bits;
 ghost use mathlib.Core.Path.{_≡_};
+ghost use mathlib.Core.List.{[], _∷_};
 ghost use Prim.Native.Nat.{_^_, _≤_, _<_};
 ghost use lib.Ieee.{binary32, binary64, ofBits, toBits};
 ghost use lib.Ieee.Scale.{finite};
-ghost use Rattle.float.specs.Refusal.{all, any};
-ghost use Rattle.float.specs.Finite.{exceeds};
-ghost use Rattle.float.specs.HalfEven.{halfEven};
+ghost use Rattle.float.specs.Refusal.{all, any, first};
+ghost use Rattle.float.specs.Finite.{notFinite, exceeds, anyExceeds};
+ghost use Rattle.float.specs.Lines.{refusedLines};
+ghost use Rattle.float.specs.inner.HalfEven.{halfEven};
 ghost use Rattle.float.specs.Narrow.{narrow};
 
 // Neither infinite nor a NaN.
@@ -51,6 +53,43 @@ pub fn any_exceeds(s: &[f32], bound: f32) -> bool
         i += 1;
     }
     false
+}
+
+// The two lists of refusals that most operations have: 5; 5, then 6 above a bound in magnitude.
+pub fn check_finite(s: &[f32]) -> u32
+    ensures { λ r. ⌜ r ≡ first ((5, notFinite (now (s .entry))) ∷ []) ⌝ }
+{
+    if !all_finite(s) {
+        return 5;
+    }
+    0
+}
+
+pub fn check_bounded(s: &[f32], bound: f32) -> u32
+    ensures { λ r. ⌜ r ≡ first ((5, notFinite (now (s .entry))) ∷ (6, anyExceeds bound (now (s .entry))) ∷ []) ⌝ }
+{
+    if !all_finite(s) {
+        return 5;
+    }
+    if any_exceeds(s, bound) {
+        return 6;
+    }
+    0
+}
+
+// What an operation answers that makes ten lines, cosines or frequencies: the lines, or a refusal's number and zeros.
+pub struct Lines {
+    pub status: u32,
+    pub lines: [f32; 10],
+}
+
+pub fn refused_lines(status: u32) -> Lines
+    ensures { λ r. ⌜ r ≡ refusedLines status ⌝ }
+{
+    Lines {
+        status,
+        lines: [0.0; 10],
+    }
 }
 
 // d / 2^k to the nearest whole number, a tie to the even one.

@@ -4,18 +4,14 @@ use mathlib.Core.List.{List, _∷_}
 use lib.Ieee.{Float}
 use Rattle.float.specs.Single.{single}
 use Rattle.float.specs.Vector.{zeros}
-use Rattle.combined.specs.declared.Combined.{Combined}
+use Rattle.combined.specs.declared.CombinedOut.{CombinedOut}
 use Rattle.combined.specs.Memory.{atRest}
 use Rattle.combined.specs.Cascade.{Settings}
-use Rattle.combined.specs.Run.{runCombined}
-use Rattle.impulse.specs.declared.ImpulseResponse.{ImpulseResponse}
+use Rattle.combined.specs.Run.{runCombined, answered}
 
 abbrev pub impulse : List Float
 impulse = single 1 1 ∷ zeros 59
 
-abbrev pub response : Combined → ImpulseResponse
-response r = record { status = r .status; out = r .out }
-
 -- from rest on the unit impulse
-unfoldable pub impulseResponse : Settings → ImpulseResponse
-impulseResponse q = response (runCombined q impulse atRest)
+unfoldable pub impulseResponse : Settings → CombinedOut
+impulseResponse q = answered (runCombined q impulse atRest)

@@ -2,11 +2,7 @@
 ghost use mathlib.Core.Path.{_≡_};
 ghost use Rattle.combined.specs.Cascade.{settings};
 ghost use Rattle.impulse.specs.Impulse.{impulseResponse};
-
-pub struct ImpulseResponse {
-    pub status: u32,
-    pub out: [f32; 60],
-}
+use combined::CombinedOut;
 
 // The filter's response to the unit impulse, from rest.
 pub fn combined_impulse_response(
@@ -15,7 +11,7 @@ pub fn combined_impulse_response(
     wp: [f32; 10],
     lag: u32,
     beta: f32,
-) -> ImpulseResponse
+) -> CombinedOut
     ensures { λ r. ⌜ r ≡ impulseResponse (settings aq wz wp lag beta) ⌝ }
 {
     let mut delta = [0.0f32; 60];
@@ -24,5 +20,5 @@ pub fn combined_impulse_response(
     let r = combined::run_combined(rest, delta, aq, wz, wp, lag, beta);
     let status = r.status;
     let out = r.out;
-    ImpulseResponse { status, out }
+    CombinedOut { status, out }
 }

@@ -11,8 +11,9 @@ use lib.Ieee.{Float, nan, fin}
 use lib.ListN.{getD}
 use Rattle.float.specs.Table.{table}
 use Rattle.lags.specs.declared.FourLags.{FourLags}
-use Rattle.lags.specs.Lags.{cross, delayed}
-use Rattle.lags.specs.Four.{sampleMore}
+use Rattle.lags.specs.Lags.{cross}
+use Rattle.lags.specs.inner.Delayed.{delayed}
+use Rattle.lags.specs.inner.Four.{sampleMore}
 use Rattle.lags.proofs.Sums.{cross-none, cross-more, cross-all, delayed-none, delayed-more, delayed-all}
 
 pub record Lanes (x q : List Float) (o n top : ℕ) (s : FourLags) : Type 0 where
@@ -42,7 +43,8 @@ module _ (x q : List Float) (o top : ℕ) where
   }
 
   -- one sample more: the delayed ones stand from k on
-  pub lanes-more : (n k : ℕ) (f : Float) (s r : FourLags) → f ≡ getD x (o + n) nan → 3 ≤ top → top ≤ o → k + top ≡ o + n → r ≡ sampleMore s x q f k → Lanes x q o n top s → Lanes x q o (n + 1) top r
+  pub lanes-more : (n k : ℕ) (f : Float) (s r : FourLags) → f ≡ getD x (o + n) nan → 3 ≤ top → top ≤ o
+      → k + top ≡ o + n → r ≡ sampleMore s x q f k → Lanes x q o n top s → Lanes x q o (n + 1) top r
   unfolding sampleMore
   lanes-more n k f s r g a b e h w =
       rw (h, g) (record {

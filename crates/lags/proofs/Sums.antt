@@ -9,7 +9,8 @@ use lib.Ieee.{Float, nan, fin, Format, binary64, add, mul}
 use lib.ListN.{getD}
 use Rattle.float.specs.Loop.{times, sum}
 use Rattle.float.proofs.Loop.{Went, went-more}
-use Rattle.lags.specs.Lags.{cross, delayed}
+use Rattle.lags.specs.Lags.{cross}
+use Rattle.lags.specs.inner.Delayed.{delayed}
 
 -- one term more
 pub sum-more : (f : Format) (n : ℕ) (term : ℕ → Float) → sum f 0 (n + 1) term ≡ add f (sum f 0 n term) (term n)
@@ -26,21 +27,25 @@ unfolding delayed times
 delayed-none g o j = refl
 
 -- at is where the code reads the delayed sample
-pub cross-more : (f : List Float) (o n j at : ℕ) (a : Float) → at ≡ o + n - j → a ≡ cross f o n j → add binary64 a (mul binary64 (getD f (o + n) nan) (getD f at nan)) ≡ cross f o (n + 1) j
+pub cross-more : (f : List Float) (o n j at : ℕ) (a : Float) → at ≡ o + n - j → a ≡ cross f o n j
+    → add binary64 a (mul binary64 (getD f (o + n) nan) (getD f at nan)) ≡ cross f o (n + 1) j
 unfolding cross
 cross-more f o n j at a e h = rw (e, h) (sym (sum-more binary64 n (λ i. mul binary64 (getD f (o + i) nan) (getD f (o + i - j) nan))))
 
-pub delayed-more : (g : List Float) (o n j at : ℕ) (a : Float) → at ≡ o + n - j → a ≡ delayed g o n j → add binary64 a (getD g at nan) ≡ delayed g o (n + 1) j
+pub delayed-more : (g : List Float) (o n j at : ℕ) (a : Float) → at ≡ o + n - j → a ≡ delayed g o n j
+    → add binary64 a (getD g at nan) ≡ delayed g o (n + 1) j
 unfolding delayed
 delayed-more g o n j at a e h = rw (e, h) (sym (sum-more binary64 n (λ i. getD g (o + i - j) nan)))
 
 -- the last one reached
-pub delayed-all : (g : List Float) (o n count j : ℕ) (a : Float) → n ≤ count → count ≤ n → a ≡ delayed g o n j → a ≡ delayed g o count j
+pub delayed-all : (g : List Float) (o n count j : ℕ) (a : Float) → n ≤ count → count ≤ n → a ≡ delayed g o n j
+    → a ≡ delayed g o count j
 delayed-all g o n count j a h k e =
     let q : n ≡ count = omega arith in
     e ∙ ap (λ (m : ℕ). delayed g o m j) q
 
-pub cross-all : (f : List Float) (o n count j : ℕ) (a : Float) → n ≤ count → count ≤ n → a ≡ cross f o n j → a ≡ cross f o count j
+pub cross-all : (f : List Float) (o n count j : ℕ) (a : Float) → n ≤ count → count ≤ n → a ≡ cross f o n j
+    → a ≡ cross f o count j
 cross-all f o n count j a h k e =
     let q : n ≡ count = omega arith in
     e ∙ ap (λ (m : ℕ). cross f o m j) q

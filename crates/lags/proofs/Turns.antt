@@ -16,7 +16,8 @@ use Rattle.float.proofs.Table.{at-table}
 use Rattle.float.proofs.Loop.{Went, same-times}
 use Rattle.float.proofs.Blocks.{went-on}
 use Rattle.lags.specs.declared.Best.{Best}
-use Rattle.lags.specs.Lags.{cross, delayed, power}
+use Rattle.lags.specs.Lags.{cross, power}
+use Rattle.lags.specs.inner.Delayed.{delayed}
 use Rattle.lags.specs.Search.{Rule, offered}
 
 -- the squares, as the code keeps them
@@ -24,7 +25,8 @@ abbrev pub squares : List Float → ℕ → Float
 squares x i = getD x i nan ⊠ getD x i nan
 
 -- a sum of kept squares is the power
-pub kept-power : (x q : List Float) (n o count j : ℕ) → q ≡ table n (squares x) → o + count ≤ n → delayed q o count j ≡ power x o count j
+pub kept-power : (x q : List Float) (n o count j : ℕ) → q ≡ table n (squares x) → o + count ≤ n
+    → delayed q o count j ≡ power x o count j
 unfolding delayed power
 kept-power x q n o count j e h =
     same-times (count - 0) (λ i s. add binary64 s (getD q (o + (0 + i) - j) nan)) (λ i s. add binary64 s (squares x (o + (0 + i) - j))) (fin false 0 (pos 0))
@@ -35,7 +37,8 @@ abbrev pub offer : Rule → List Float → ℕ → ℕ → ℕ → Best → Best
 offer beats x o count j b = offered beats b j (cross x o count j) (power x o count j)
 
 -- place first + 7 − j of a table of eight is lag j's
-pub own : (f : ℕ → Float) (t : List Float) (first j : ℕ) → first ≤ j → j < first + 8 → t ≡ table 8 (λ i. f (first + 7 - i)) → getD t (first + 7 - j) nan ≡ f j
+pub own : (f : ℕ → Float) (t : List Float) (first j : ℕ) → first ≤ j → j < first + 8
+    → t ≡ table 8 (λ i. f (first + 7 - i)) → getD t (first + 7 - j) nan ≡ f j
 own f t first j h l e =
     let d : first + 7 - (first + 7 - j) ≡ j = omega arith in
     ap (λ (z : List Float). getD z (first + 7 - j) nan) e ∙ at-table 8 (λ i. f (first + 7 - i)) (first + 7 - j) nan (omega arith) ∙ ap f d
@@ -52,7 +55,9 @@ block beats x q c p n o count first from to b e r cs ps h l =
     ∙ ap (offered beats s (from + i) (cross x o count (from + i))) (own (delayed q o count) p first (from + i) (omega arith) (omega arith) ps ∙ kept-power x q n o count (from + i) e r))
 
 -- one turn of the search over lags 18 .. limit
-pub turn : (step : ℕ → Best → Best) (s₀ : Best) (limit lag to : ℕ) (b t : Best) → lag ≤ limit → to ≡ min (lag + 8) (limit + 1) → t ≡ over lag to step b → Went 18 (suc limit) step s₀ (min lag (suc limit)) b → Went 18 (suc limit) step s₀ (min (lag + 8) (suc limit)) t
+pub turn : (step : ℕ → Best → Best) (s₀ : Best) (limit lag to : ℕ) (b t : Best) → lag ≤ limit
+    → to ≡ min (lag + 8) (limit + 1) → t ≡ over lag to step b → Went 18 (suc limit) step s₀ (min lag (suc limit)) b
+    → Went 18 (suc limit) step s₀ (min (lag + 8) (suc limit)) t
 turn step s₀ limit lag to b t h e f r =
     let d : min lag (suc limit) ≡ lag = omega arith in
     let g : to ≡ min (lag + 8) (suc limit) = omega arith in

@@ -12,10 +12,6 @@ use Rattle.float.specs.Double.{_⊠_, _⧄_, double}
 unfoldable pub cross : List Float → ℕ → ℕ → ℕ → Float
 cross f o count j = sum binary64 0 count (λ n. getD f (o + n) nan ⊠ getD f (o + n - j) nan)
 
--- the sum of g[o + n − j]
-unfoldable pub delayed : List Float → ℕ → ℕ → ℕ → Float
-delayed g o count j = sum binary64 0 count (λ n. getD g (o + n - j) nan)
-
 -- the sum of squares of f[o + n − j]; at lag 0 that of the samples themselves
 unfoldable pub power : List Float → ℕ → ℕ → ℕ → Float
 power f o count j = sum binary64 0 count (λ n. getD f (o + n - j) nan ⊠ getD f (o + n - j) nan)

@@ -1,4 +1,4 @@
 -- Lags of the weighted speech: their sums, and the search over them.
 pub mod Lags
-pub mod Four
 pub mod Search
+pub mod inner

@@ -11,8 +11,9 @@ ghost use Rattle.float.specs.Table.{table};
 ghost use Rattle.float.specs.Loop.{over};
 ghost use Rattle.float.specs.Double.{_⊠_};
 ghost use Rattle.float.specs.Refusal.{all};
-ghost use Rattle.lags.specs.Lags.{cross, delayed};
-ghost use Rattle.lags.specs.Four.{sampleMore};
+ghost use Rattle.lags.specs.Lags.{cross};
+ghost use Rattle.lags.specs.inner.Delayed.{delayed};
+ghost use Rattle.lags.specs.inner.Four.{sampleMore};
 ghost use Rattle.lags.specs.Search.{challenged, offered, winner, preferred};
 
 // The winner so far among the lags searched.

@@ -1,35 +1,38 @@
 -- A set that the line holds: ten values, each finite and within 16,384 of its resting one. The resting set is one; the decoder makes one of one, with any rows whose
 -- numbers are small; neither end refuses one. Two that are decoded alike come closer. Assumes nothing.
 use mathlib.Core.Path.{_≡_, refl, sym, ap, _∙_, subst}
-use mathlib.Core.Bool.{Bool, true, false, not, _&&_, cond}
+use mathlib.Core.Bool.{Bool, true, false, not}
 use mathlib.Core.Logic.{_⊎_, inl, inr}
 use mathlib.Core.List.{List}
-use Prim.Native.Nat.{ℕ, zero, suc, _+_, _-_, _*_, _^_, _≤_, _<_}
-use native.Mathlib.Nat.{le-trans, le-of-eq, lt-of-le-of-lt, mul-le-mul-right, lt-of-lt-of-le}
+use Prim.Native.Nat.{ℕ, suc, _+_, _*_, _^_, _≤_, _<_, zero-le}
+use native.Mathlib.Nat.{le-refl, le-trans, le-of-eq, lt-of-le-of-lt, mul-le-mul-right}
 use native.Mathlib.Omega.{arith}
-use lib.Dec.{T, leb, leb→le, ltb→lt, lit≤, lit<}
+use lib.Dec.{T, lit<}
+use lib.Signed.{leZ-yes}
 use lib.Pow.{pow-pos}
-use lib.IntN.{ℤ, pos, negsuc}
+use lib.IntN.{ℤ, pos, negsuc, natAbs}
 use lib.ListN.{length, getD}
 use lib.Ieee.{Float, nan, binary32, ofInt, round}
-use lib.Ieee.Fits.{and-l, and-r}
 use lib.Ieee.Scale.{finite}
 use Rattle.float.specs.Difference.{plus, less, difference}
 use Rattle.float.specs.Finite.{power, exceeds, anyExceeds}
 use Rattle.float.specs.Refusal.{all}
 use Rattle.float.specs.Single.{single}
-use Rattle.float.specs.Table.{table}
 use Rattle.float.specs.Vector.{at}
 use Rattle.float.proofs.Near.{Good, one-side}
 use Rattle.float.proofs.Table.{length-table, at-table}
 use Rattle.float.proofs.Whole.{Whole, whole, upper, lower, units-bound}
+use Rattle.spec_tables.specs.declared.LspBand.the-variants.{Band0, Band1, Band2}
+use Rattle.spec_tables.specs.Bounds.{allInside, rowsPass}
+use Rattle.spec_tables.specs.Codebook.{neg}
 use Rattle.spec_tables.specs.Tables.{dcFreq}
+use Rattle.spec_tables.proofs.Bounds.{list-at, row-passes, join-passes, pass-inside, magnitude}
 use Rattle.row_search.specs.Error.{number}
-use Rattle.spec_lsp.specs.Decode.{rebuilt, bandRow, rowNumbers, decoded}
-use Rattle.line.specs.Small.{most, small, SmallRows}
-use Rattle.line.specs.Claim.{resting, Near, Ten}
-use Rattle.line.proofs.Drift.{apart-above, apart-below, apart-most, between, below-limit}
-use Rattle.line.proofs.Each.{all-each, all-at-any, all-join, all-table, is-true}
+use Rattle.spec_lsp.specs.Decode.{rebuilt, rowNumbers, decoded}
+use Rattle.spec_lsp.specs.Resting.{resting}
+use Rattle.line.specs.Claim.{Near, Ten}
+use Rattle.line.proofs.Drift.{apart-most, between, below-limit}
+use Rattle.line.proofs.Each.{all-each, is-true}
 use Rattle.line.proofs.Rebuild as rebuild
 use Rattle.line.proofs.Rebuild.{Inside, Resting, Small}
 
@@ -38,70 +41,61 @@ abbrev pub u : ℕ
 u = 2 ^ 138
 
 -- ---- rows' numbers and resting values
-small-upper : (z : ℤ) → T (small z) → upper z ≤ 8192
-small-upper (pos n) h = le-trans (leb→le n most h) (lit≤ tt)
-small-upper (negsuc n) h = lit≤ tt
+upper-most : (z : ℤ) → upper z ≤ natAbs z
+upper-most (pos n) = le-refl n
+upper-most (negsuc n) = zero-le
 
-small-lower : (z : ℤ) → T (small z) → lower z ≤ 8192
-small-lower (pos n) h = lit≤ tt
-small-lower (negsuc n) h = le-trans (ltb→lt n most h) (lit≤ tt)
+lower-most : (z : ℤ) → lower z ≤ natAbs z
+lower-most (pos n) = zero-le
+lower-most (negsuc n) = le-refl (suc n)
 
-under : (n b : ℕ) → n ≤ b → b < 2 ^ 24 → n < 2 ^ 24
-under n b h k = lt-of-le-of-lt h k
+-- a whole number within a bound that a single holds exactly, in units
+module _ (b : ℕ) (B : b < 2 ^ 24) (z : ℤ) (h : natAbs z ≤ b) where
+  is-whole : Whole z (ofInt binary32 z)
+  is-whole = whole z (lt-of-le-of-lt (le-trans (upper-most z) h) B) (lt-of-le-of-lt (le-trans (lower-most z) h) B)
 
-small-number : (z : ℤ) → T (small z) → Small u (ofInt binary32 z)
-small-number z h =
-    let w = whole z (under (upper z) 8192 (small-upper z h) (lit< tt)) (under (lower z) 8192 (small-lower z h) (lit< tt)) in
-    record {
-      good = w .good;
-      most = le-trans (le-of-eq (w .over)) (mul-le-mul-right (2 ^ 149) (small-upper z h));
-      least = le-trans (le-of-eq (w .under)) (mul-le-mul-right (2 ^ 149) (small-lower z h));
-    }
+  above-most : plus (ofInt binary32 z) ≤ b * 2 ^ 149
+  above-most = le-trans (le-of-eq (is-whole .over)) (mul-le-mul-right (2 ^ 149) (le-trans (upper-most z) h))
 
-low : ℤ → Bool
-low z = leb (upper z) 27718 && leb (lower z) 27718
+  below-most : less (ofInt binary32 z) ≤ b * 2 ^ 149
+  below-most = le-trans (le-of-eq (is-whole .under)) (mul-le-mul-right (2 ^ 149) (le-trans (lower-most z) h))
 
-dc-low : T (all low dcFreq)
-unfolding all low
-dc-low = tt
+small-number : (z : ℤ) → natAbs z ≤ 8192 → Small u (ofInt binary32 z)
+small-number z h = record {
+  good = is-whole 8192 (lit< tt) z h .good;
+  most = above-most 8192 (lit< tt) z h;
+  least = below-most 8192 (lit< tt) z h;
+}
 
-dc-at : (i : ℕ) → T (low (getD dcFreq i (pos 0)))
-unfolding low
-dc-at i = all-at-any low dcFreq (pos 0) tt dc-low i
-
-resting-number : (z : ℤ) → T (low z) → Resting u (ofInt binary32 z)
-unfolding low
-resting-number z t =
-    let h : upper z ≤ 27718 = leb→le (upper z) 27718 (and-l (leb (upper z) 27718) (leb (lower z) 27718) t) in
-    let k : lower z ≤ 27718 = leb→le (lower z) 27718 (and-r (leb (upper z) 27718) (leb (lower z) 27718) t) in
-    let w = whole z (under (upper z) 27718 h (lit< tt)) (under (lower z) 27718 k (lit< tt)) in
-    record {
-      good = w .good;
-      most = le-trans (le-of-eq (w .over)) (mul-le-mul-right (2 ^ 149) h);
-      least = le-trans (le-of-eq (w .under)) (mul-le-mul-right (2 ^ 149) k);
-    }
+dc-low : (i : ℕ) → natAbs (getD dcFreq i (pos 0)) ≤ 27718
+unfolding allInside
+dc-low i = magnitude 27718 _ (list-at (neg 27718) (pos 27718) (record { least = leZ-yes tt; most = leZ-yes tt }) dcFreq tt i)
 
 pub rests : (i : ℕ) → Resting u (number dcFreq i)
-rests i = resting-number (getD dcFreq i (pos 0)) (dc-at i)
+rests i =
+    let z = getD dcFreq i (pos 0) in
+    record {
+      good = is-whole 27718 (lit< tt) z (dc-low i) .good;
+      most = above-most 27718 (lit< tt) z (dc-low i);
+      least = below-most 27718 (lit< tt) z (dc-low i);
+    }
 
 -- every number of the rows that an index names is small
-module _ (rows : List ℤ) (R : SmallRows rows) where
-  band-small : (band : _) (n : ℕ) → T (all small (bandRow rows band n))
-  unfolding bandRow
-  band-small band n = all-table small _ _ (λ j. all-at-any small rows (pos 0) tt R _)
+module _ (rows : List ℤ) (R : T (rowsPass rows)) where
+  numbers-pass : (index : ℕ) → T (rowsPass (rowNumbers rows index))
+  unfolding rowNumbers
+  numbers-pass index =
+      join-passes _ _ (join-passes _ _ (row-passes rows R Band0 _) (row-passes rows R Band1 _)) (row-passes rows R Band2 _)
 
   pub rows-small : (index i : ℕ) → Small u (number (rowNumbers rows index) i)
-  unfolding rowNumbers
-  rows-small index i =
-      small-number (getD (rowNumbers rows index) i (pos 0))
-      (all-at-any small (rowNumbers rows index) (pos 0) tt
-      (all-join small _ _ (all-join small _ _ (band-small _ _) (band-small _ _)) (band-small _ _)) i)
+  rows-small index i = small-number _ (magnitude 8192 _ (pass-inside (rowNumbers rows index) (numbers-pass index) i))
 
 -- ---- one decoding, at this unit
 step-inside : (x dc row : Float) → Inside u dc x → Resting u dc → Small u row → Inside u dc (rebuilt x dc row)
 step-inside = rebuild.inside u (pow-pos 138) refl refl refl refl refl refl
 
-step-shrinks : (x y dc row : Float) → Inside u dc x → Inside u dc y → Resting u dc → Small u row → 8 * difference (rebuilt x dc row) (rebuilt y dc row) + 3 * (32 * u) ≤ 3 * difference x y + 8 * (32 * u)
+step-shrinks : (x y dc row : Float) → Inside u dc x → Inside u dc y → Resting u dc → Small u row →
+    8 * difference (rebuilt x dc row) (rebuilt y dc row) + 3 * (32 * u) ≤ 3 * difference x y + 8 * (32 * u)
 step-shrinks = rebuild.shrinks u (pow-pos 138) refl refl refl refl refl refl
 
 -- ---- a set
@@ -126,7 +120,8 @@ held-resting = record {
   each = λ i h. subst (λ (x : Float). Inside u (number dcFreq i) x) (sym (at-resting i h)) (self-inside (number dcFreq i) (rests i .good));
 }
 
-pub at-decoded : (rows : List ℤ) (index : ℕ) (prev : List Float) (i : ℕ) → i < 10 → at (decoded rows index prev) i ≡ rebuilt (at prev i) (number dcFreq i) (number (rowNumbers rows index) i)
+pub at-decoded : (rows : List ℤ) (index : ℕ) (prev : List Float) (i : ℕ) → i < 10 →
+    at (decoded rows index prev) i ≡ rebuilt (at prev i) (number dcFreq i) (number (rowNumbers rows index) i)
 unfolding decoded
 at-decoded rows index prev i h = at-table 10 (λ k. rebuilt (at prev k) (number dcFreq k) (number (rowNumbers rows index) k)) i nan h
 
@@ -134,13 +129,15 @@ pub length-decoded : (rows : List ℤ) (index : ℕ) (prev : List Float) → len
 unfolding decoded
 length-decoded rows index prev = length-table 10 (λ k. rebuilt (at prev k) (number dcFreq k) (number (rowNumbers rows index) k))
 
-pub held-decoded : (rows : List ℤ) → SmallRows rows → (index : ℕ) (prev : List Float) → Held prev → Held (decoded rows index prev)
+pub held-decoded : (rows : List ℤ) → T (rowsPass rows) → (index : ℕ) (prev : List Float) → Held prev →
+    Held (decoded rows index prev)
 held-decoded rows R index prev p = record {
   long = length-decoded rows index prev;
   each = λ i h. subst (λ (x : Float). Inside u (number dcFreq i) x) (sym (at-decoded rows index prev i h)) (step-inside (at prev i) (number dcFreq i) (number (rowNumbers rows index) i) (p .each i h) (rests i) (rows-small rows R index i));
 }
 
-pub decoded-shrinks : (rows : List ℤ) → SmallRows rows → (index : ℕ) (x y : List Float) → Held x → Held y → (i : ℕ) → i < 10 →
+pub decoded-shrinks : (rows : List ℤ) → T (rowsPass rows) → (index : ℕ) (x y : List Float) → Held x → Held y →
+    (i : ℕ) → i < 10 →
     8 * difference (at (decoded rows index x) i) (at (decoded rows index y) i) + 3 * (32 * u) ≤ 3 * difference (at x i) (at y i) + 8 * (32 * u)
 decoded-shrinks rows R index x y p q i h =
     subst (λ (z : Float). 8 * difference z (at (decoded rows index y) i) + 3 * (32 * u) ≤ 3 * difference (at x i) (at y i) + 8 * (32 * u)) (sym (at-decoded rows index x i h))
@@ -194,7 +191,8 @@ ten-held set p = record {
 }
 
 -- two of them lie within 32,768 of each other
-pub held-apart : (x y : List Float) → Held x → Held y → (i : ℕ) → i < 10 → difference (at x i) (at y i) ≤ 33554432 * u + 33554432 * u
+pub held-apart : (x y : List Float) → Held x → Held y → (i : ℕ) → i < 10 →
+    difference (at x i) (at y i) ≤ 33554432 * u + 33554432 * u
 unfolding difference
 held-apart x y p q i h =
     let a = at x i in

@@ -2,7 +2,7 @@
 -- does. C is any number here. Assumes nothing.
 use mathlib.Core.Path.{_≡_, sym, ap, _∙_, subst}
 use Prim.Native.Nat.{ℕ, zero, suc, _+_, _-_, _*_, _^_, _≤_, _<_}
-use native.Mathlib.Nat.{le-refl, le-trans, le-of-eq, mul-assoc, mul-comm, mul-left-comm, mul-add, one-mul, mul-le-mul-left, mul-le-mul-right, le-of-mul-le-mul-left, pow-succ', add-zero}
+use native.Mathlib.Nat.{le-trans, le-of-eq, mul-assoc, mul-left-comm, mul-add, mul-le-mul-left, mul-le-mul-right, le-of-mul-le-mul-left, pow-succ'}
 use native.Mathlib.Omega.{arith}
 use lib.Dec.{lit≤, lit<}
 
@@ -11,7 +11,8 @@ pub none : (d D C : ℕ) → d ≤ D → 8 ^ 0 * d + 3 ^ 0 * C ≤ 3 ^ 0 * D + 8
 none d D C h = omega arith
 
 -- an arrival, and then n more
-pub more : (n d e D C : ℕ) → 8 * e + 3 * C ≤ 3 * D + 8 * C → 8 ^ n * d + 3 ^ n * C ≤ 3 ^ n * e + 8 ^ n * C → 8 ^ suc n * d + 3 ^ suc n * C ≤ 3 ^ suc n * D + 8 ^ suc n * C
+pub more : (n d e D C : ℕ) → 8 * e + 3 * C ≤ 3 * D + 8 * C → 8 ^ n * d + 3 ^ n * C ≤ 3 ^ n * e + 8 ^ n * C →
+    8 ^ suc n * d + 3 ^ suc n * C ≤ 3 ^ suc n * D + 8 ^ suc n * C
 more n d e D C h k =
     let A = 8 ^ n in
     let B = 3 ^ n in

@@ -1,13 +1,11 @@
 -- One decoding of a frequency in singles: from a finite value within 16,384 of the resting one, and a row's number within 8,192, it makes a finite value
 -- within 16,384 again, and two values that start apart come closer. Assumes nothing.
-use mathlib.Core.Path.{_≡_, refl, sym, ap, _∙_, subst}
+use mathlib.Core.Path.{_≡_, sym, subst}
 use mathlib.Core.Bool.{false}
-use Prim.Native.Nat.{ℕ, zero, suc, _+_, _-_, _*_, _^_, _≤_, _<_}
+use Prim.Native.Nat.{ℕ, _+_, _-_, _*_, _^_, _≤_, _<_}
 use native.Mathlib.Nat.{zero-lt-suc}
-use native.Mathlib.Omega.{arith}
 use lib.Dec.{lit≤}
-use lib.Pow.{pow-pos}
-use lib.Ieee.{Float, binary32, add, sub, mul}
+use lib.Ieee.{Float, binary32}
 use lib.Ieee.Exact.{HasValue}
 use Rattle.float.specs.Difference.{plus, less, difference}
 use Rattle.float.specs.Single.{_⊕_, _⊖_, _⊗_, single}
@@ -22,13 +20,18 @@ unfolding single
 ratio = dyadic-exact binary32 false 3 3 (lib.Dec.lit< tt) (lit≤ tt)
 
 -- ---- the operations with their bounds and errors by other names
-sub-step : (x y : Float) (k e B : ℕ) → 2 ^ k ≡ e → 2 ^ (24 + k) ≡ B → k ≤ 252 → Good x → Good y → plus x + less y < less x + plus y + B → less x + plus y < plus x + less y + B → Near 1 (x ⊖ y) (plus x + less y) (less x + plus y) e
+sub-step : (x y : Float) (k e B : ℕ) → 2 ^ k ≡ e → 2 ^ (24 + k) ≡ B → k ≤ 252 → Good x → Good y →
+    plus x + less y < less x + plus y + B → less x + plus y < plus x + less y + B →
+    Near 1 (x ⊖ y) (plus x + less y) (less x + plus y) e
 sub-step x y k e B p q K g h m n = subst (λ (i : ℕ). Near 1 (x ⊖ y) (plus x + less y) (less x + plus y) i) p (sub-near x y k g h K (subst (λ (i : ℕ). plus x + less y < less x + plus y + i) (sym q) m, subst (λ (i : ℕ). less x + plus y < plus x + less y + i) (sym q) n))
 
-add-step : (x y : Float) (k e B : ℕ) → 2 ^ k ≡ e → 2 ^ (24 + k) ≡ B → k ≤ 252 → Good x → Good y → plus x + plus y < less x + less y + B → less x + less y < plus x + plus y + B → Near 1 (x ⊕ y) (plus x + plus y) (less x + less y) e
+add-step : (x y : Float) (k e B : ℕ) → 2 ^ k ≡ e → 2 ^ (24 + k) ≡ B → k ≤ 252 → Good x → Good y →
+    plus x + plus y < less x + less y + B → less x + less y < plus x + plus y + B →
+    Near 1 (x ⊕ y) (plus x + plus y) (less x + less y) e
 add-step x y k e B p q K g h m n = subst (λ (i : ℕ). Near 1 (x ⊕ y) (plus x + plus y) (less x + less y) i) p (add-near x y k g h K (subst (λ (i : ℕ). plus x + plus y < less x + less y + i) (sym q) m, subst (λ (i : ℕ). less x + less y < plus x + plus y + i) (sym q) n))
 
-mul-step : (y : Float) (k e B : ℕ) → 2 ^ k ≡ e → 2 ^ (24 + k) ≡ B → k ≤ 252 → Good y → 3 * (plus y + less y) < B * 8 → Near 8 (single 3 8 ⊗ y) (3 * plus y) (3 * less y) e
+mul-step : (y : Float) (k e B : ℕ) → 2 ^ k ≡ e → 2 ^ (24 + k) ≡ B → k ≤ 252 → Good y → 3 * (plus y + less y) < B * 8 →
+    Near 8 (single 3 8 ⊗ y) (3 * plus y) (3 * less y) e
 mul-step y k e B p q K g m = subst (λ (i : ℕ). Near 8 (single 3 8 ⊗ y) (3 * plus y) (3 * less y) i) p (mul-near (single 3 8) y 3 8 k (zero-lt-suc 7) ratio g K (subst (λ (i : ℕ). 3 * (plus y + less y) < i * 8) (sym q) m))
 
 -- ---- what a decoding does, in units of which u are 1/2048
@@ -94,7 +97,8 @@ module _ (u : ℕ) (U : 0 < u) (e138 : 2 ^ 138 ≡ u) (e140 : 2 ^ 140 ≡ 4 * u)
       }
 
   -- what lies between two shrinks to 3/8, and 20 u
-  pub shrinks : (x y dc row : Float) → Inside u dc x → Inside u dc y → Resting u dc → Small u row → 8 * difference (rebuilt x dc row) (rebuilt y dc row) + 3 * (32 * u) ≤ 3 * difference x y + 8 * (32 * u)
+  pub shrinks : (x y dc row : Float) → Inside u dc x → Inside u dc y → Resting u dc → Small u row →
+      8 * difference (rebuilt x dc row) (rebuilt y dc row) + 3 * (32 * u) ≤ 3 * difference x y + 8 * (32 * u)
   unfolding difference
   shrinks x y dc row i j r s =
       let p = moved x dc row i r s in

@@ -9,34 +9,33 @@
 --   closer  from any moment on, while no index is lost, after n arrivals a frequency's difference d satisfies 8^n d ≤ 3^n D + 8^n 2^143 for every D that is at least the
 --           difference before, both in units of 2^-149;
 --   close   and from the fifteenth arrival on d ≤ 2^144, which is 1/32.
--- What it is about. `rejoin` is over any code rows whose numbers lie within -8,192..8,192 and any choice of an index. `line` is about the definitions that the contracts of
--- `quantise_lsp_freq` and `decode_lsp_freq` cite, `quantiseLspFreq lspRows` and `decodeLspFreq lspRows` of spec_lsp, with the built-in rows and the real search.
+-- What it is about. `rejoin` is over any list of code rows that passes the one test of rows, `rowsPass` of spec_tables (every number lies within
+-- -8,192..8,192), and any choice of an index. `line-of` is it with the real search: `quantiseLspFreq rows` and `decodeLspFreq rows` of spec_lsp, for every
+-- such list. `line` is it with the built-in rows, and so is about the definitions that the contracts of `quantise_lsp_freq` and `decode_lsp_freq` cite.
 -- Assumes nothing.
-use mathlib.Core.Path.{_≡_, refl, sym, ap, _∙_, subst}
+use mathlib.Core.Path.{_≡_, refl, ap}
 use mathlib.Core.Bool.{Bool, true, false, not}
-use mathlib.Core.List.{List, flatten}
-use Prim.Native.Nat.{ℕ, _+_, _*_, _^_, _≤_, _<_}
-use native.Mathlib.Nat.{le-refl}
+use mathlib.Core.List.{List}
+use Prim.Native.Nat.{ℕ, _+_, _*_, _≤_}
 use lib.Dec.{T}
 use lib.IntN.{ℤ}
 use lib.Ieee.{Float}
 use lib.Ieee.Scale.{finite}
+use Rattle.float.specs.declared.Lines.{Lines}
 use Rattle.float.specs.Difference.{difference}
-use Rattle.float.specs.Finite.{notFinite, anyExceeds}
 use Rattle.float.specs.Refusal.{all}
-use Rattle.float.specs.Single.{single}
 use Rattle.float.specs.Vector.{at}
-use Rattle.spec_tables.specs.Codebook.{lspBand0, lspBand1, lspBand2, lspRows}
-use Rattle.spec_lsp.specs.declared.decode.LspFreq.{LspFreq}
+use Rattle.spec_tables.specs.Bounds.{rowsPass}
+use Rattle.spec_tables.specs.Codebook.{lspRows}
+use Rattle.spec_tables.proofs.BuiltIn.{rows-pass}
 use Rattle.spec_lsp.specs.declared.quantise.Quantised.{Quantised}
 use Rattle.spec_lsp.specs.Decode.{decodeLspFreq}
 use Rattle.spec_lsp.specs.Quantise.{indexOf, quantiseBy, quantiseLspFreq}
 use Rattle.spec_lsp.proofs.Refusals.{quantise-done}
-use Rattle.line.specs.Small.{small, SmallRows}
 use Rattle.line.specs.declared.Turn.{Turn}
-use Rattle.line.specs.Line.{run, arrivals, losses}
-use Rattle.line.specs.Claim.{resting, start, Ten, Rejoin}
-use Rattle.line.proofs.Held.{u, Held, held-resting, held-finite, held-bounded, held-apart, ten-held}
+use Rattle.line.specs.Line.{run, arrivals}
+use Rattle.line.specs.Claim.{start, Rejoin}
+use Rattle.line.proofs.Held.{u, held-resting, held-finite, held-bounded, held-apart, ten-held}
 use Rattle.line.proofs.Powers.{demanded, settled}
 use Rattle.line.proofs.Turns.{Both, takes, run-kept, equal-run, closer-run}
 
@@ -44,8 +43,8 @@ finite-of : (b : Bool) → not b ≡ false → b ≡ true
 finite-of true h = refl
 finite-of false h = absurd (mathlib.Core.Bool.true≢false h)
 
--- ---- any small rows, any choice of an index
-module _ (rows : List ℤ) (R : SmallRows rows) (choice : List Float → List Float → ℕ) where
+-- ---- any rows that pass, any choice of an index
+module _ (rows : List ℤ) (R : T (rowsPass rows)) (choice : List Float → List Float → ℕ) where
   both : (turns : List Turn) → Both (run (quantiseBy rows choice) (decodeLspFreq rows) start turns)
   both turns = run-kept rows R choice start turns (record { coder = held-resting; decoder = held-resting })
 
@@ -55,22 +54,22 @@ module _ (rows : List ℤ) (R : SmallRows rows) (choice : List Float → List Fl
     sends = λ turns p f e.
         let set = run (quantiseBy rows choice) (decodeLspFreq rows) start turns .coder in
         ap (λ (q : Quantised). q .status) (quantise-done rows choice p set (finite-of (all finite p) f) (held-finite set (both turns .coder)) e (held-bounded set (both turns .coder)));
-    takes = λ turns turn a. ap (λ (d : LspFreq). d .status) (takes rows R choice _ _ (both turns .decoder));
+    takes = λ turns turn a. ap (λ (d : Lines). d .status) (takes rows R choice _ _ (both turns .decoder));
     equal = λ turns l. equal-run rows R choice start turns (record { coder = held-resting; decoder = held-resting }) l refl;
-    closer = λ turns row l i h D d.
+    closer = λ turns later l i h D d.
         let before = run (quantiseBy rows choice) (decodeLspFreq rows) start turns in
-        demanded _ _ _ _ (closer-run rows R choice before row (both turns) l i h D d);
-    close = λ turns row l many i h.
+        demanded _ _ _ _ (closer-run rows R choice before later (both turns) l i h D d);
+    close = λ turns later l many i h.
         let before = run (quantiseBy rows choice) (decodeLspFreq rows) start turns in
-        settled (arrivals (quantiseBy rows choice) (decodeLspFreq rows) before row) _ (32 * u) many
-        (demanded _ _ _ _ (closer-run rows R choice before row (both turns) l i h (33554432 * u + 33554432 * u) (held-apart (before .coder) (before .decoder) (both turns .coder) (both turns .decoder) i h)));
+        settled (arrivals (quantiseBy rows choice) (decodeLspFreq rows) before later) _ (32 * u) many
+        (demanded _ _ _ _ (closer-run rows R choice before later (both turns) l i h (33554432 * u + 33554432 * u) (held-apart (before .coder) (before .decoder) (both turns .coder) (both turns .decoder) i h)));
   }
 
--- ---- the built-in rows, and the search
-built-in : SmallRows lspRows
-unfolding all lspRows lspBand0 lspBand1 lspBand2 flatten
-built-in = tt
-
-pub line : Rejoin (quantiseLspFreq lspRows) (decodeLspFreq lspRows)
+-- ---- any rows that pass, and the search
+pub line-of : (rows : List ℤ) → T (rowsPass rows) → Rejoin (quantiseLspFreq rows) (decodeLspFreq rows)
 unfolding quantiseLspFreq
-line = rejoin lspRows built-in (indexOf lspRows)
+line-of rows R = rejoin rows R (indexOf rows)
+
+-- ---- the built-in rows
+pub line : Rejoin (quantiseLspFreq lspRows) (decodeLspFreq lspRows)
+line = line-of lspRows rows-pass

@@ -1,21 +1,20 @@
 -- A turn of the line between a coder with any rows and any choice of an index, and the decoder with the same rows: both ends go on holding sets, and no set is refused.
 -- Then runs of turns: equal ends stay equal while no index is lost, and other ends come closer with each arrival. Assumes nothing.
 use mathlib.Core.Path.{_≡_, refl, sym, ap, _∙_, subst}
-use mathlib.Core.Logic.{_⊎_, inl, inr}
 use mathlib.Core.Bool.{Bool, true, false, not, _&&_, cond}
 use mathlib.Core.List.{List, [], _∷_}
-use Prim.Native.Nat.{ℕ, zero, suc, _+_, _*_, _^_, _≤_, _<_}
-use native.Mathlib.Nat.{le-refl, le-trans}
+use Prim.Native.Nat.{ℕ, suc, _+_, _*_, _^_, _≤_, _<_}
+use native.Mathlib.Nat.{le-refl}
 use native.Mathlib.Omega.{arith}
-use lib.Dec.{T, eqb, eqb→eq}
+use lib.Dec.{T, eqb→eq}
 use lib.IntN.{ℤ}
 use lib.Ieee.{Float}
 use Rattle.float.specs.Difference.{difference}
 use Rattle.float.specs.Vector.{at}
+use Rattle.spec_tables.specs.Bounds.{rowsPass}
 use Rattle.spec_lsp.specs.Decode.{decoded, decodeLspFreq}
-use Rattle.spec_lsp.specs.Quantise.{quantisedAs, quantiseBy}
+use Rattle.spec_lsp.specs.Quantise.{quantiseBy}
 use Rattle.spec_lsp.proofs.Refusals.{decode-done, quantised-set}
-use Rattle.line.specs.Small.{SmallRows}
 use Rattle.line.specs.declared.Turn.{Turn}
 use Rattle.line.specs.declared.Ends.{Ends}
 use Rattle.line.specs.Line.{sends, arrives, loses, received, step, run, tally, arrivals, losses}
@@ -26,9 +25,10 @@ pub record Both (ends : Ends) : Type 0 where
   pub coder : Held (ends .coder)
   pub decoder : Held (ends .decoder)
 
-module _ (rows : List ℤ) (R : SmallRows rows) (choice : List Float → List Float → ℕ) where
+module _ (rows : List ℤ) (R : T (rowsPass rows)) (choice : List Float → List Float → ℕ) where
   -- ---- the decoder takes what arrives
-  pub takes : (index : ℕ) (set : List Float) → Held set → decodeLspFreq rows index set ≡ record { status = 0; set = decoded rows index set }
+  pub takes : (index : ℕ) (set : List Float) → Held set →
+      decodeLspFreq rows index set ≡ record { status = 0; lines = decoded rows index set }
   takes index set p = decode-done rows index set (held-finite set p) (held-bounded set p)
 
   receives : (index : ℕ) (set : List Float) → Held set → received (decodeLspFreq rows) index set ≡ decoded rows index set
@@ -45,7 +45,8 @@ module _ (rows : List ℤ) (R : SmallRows rows) (choice : List Float → List Fl
   abbrev next : Ends → Turn → Ends
   next = step (quantiseBy rows choice) (decodeLspFreq rows)
 
-  sent : (ends : Ends) (t : Turn) → Both ends → sends (quantiseBy rows choice) ends t ≡ true → next ends t ≡ after ends t (t .brings)
+  sent : (ends : Ends) (t : Turn) → Both ends → sends (quantiseBy rows choice) ends t ≡ true →
+      next ends t ≡ after ends t (t .brings)
   unfolding step
   sent ends t b h =
       let q = quantised-set rows choice (t .given) (ends .coder) (eqb→eq _ 0 (rw h tt)) in
@@ -56,7 +57,9 @@ module _ (rows : List ℤ) (R : SmallRows rows) (choice : List Float → List Fl
   not-sent ends t h = rw h
 
   -- what holds of the ends where nothing is sent, and of both sets decoded, or the coder's alone, where something is, holds after the turn
-  each-turn : (P : Ends → Type 0) (ends : Ends) (t : Turn) → Both ends → (sends (quantiseBy rows choice) ends t ≡ false → P ends) → (sends (quantiseBy rows choice) ends t ≡ true → P (after ends t (t .brings))) → P (next ends t)
+  each-turn : (P : Ends → Type 0) (ends : Ends) (t : Turn) → Both ends →
+      (sends (quantiseBy rows choice) ends t ≡ false → P ends) →
+      (sends (quantiseBy rows choice) ends t ≡ true → P (after ends t (t .brings))) → P (next ends t)
   each-turn P ends t b f g = go (sends (quantiseBy rows choice) ends t) refl
     where
       go : (s : Bool) → sends (quantiseBy rows choice) ends t ≡ s → P (next ends t)
@@ -90,7 +93,8 @@ module _ (rows : List ℤ) (R : SmallRows rows) (choice : List Float → List Fl
       rest : (n : ℕ) → 0 + n ≡ 0 → n ≡ 0
       rest n h = omega arith
 
-  no-loss : (ends : Ends) (t : Turn) (ts : List Turn) → losses (quantiseBy rows choice) (decodeLspFreq rows) ends (t ∷ ts) ≡ 0 →
+  no-loss : (ends : Ends) (t : Turn) (ts : List Turn) →
+      losses (quantiseBy rows choice) (decodeLspFreq rows) ends (t ∷ ts) ≡ 0 →
       (loses (quantiseBy rows choice) ends t ≡ false) × (losses (quantiseBy rows choice) (decodeLspFreq rows) (next ends t) ts ≡ 0)
   unfolding tally
   no-loss ends t ts h = zero-sum (loses (quantiseBy rows choice) ends t) (losses (quantiseBy rows choice) (decodeLspFreq rows) (next ends t) ts) h
@@ -100,7 +104,9 @@ module _ (rows : List ℤ) (R : SmallRows rows) (choice : List Float → List Fl
   brought true false h e = absurd (mathlib.Core.Bool.true≢false h)
   brought false b h e = absurd (mathlib.Core.Bool.true≢false (sym e))
 
-  pub equal-run : (ends : Ends) (ts : List Turn) → Both ends → losses (quantiseBy rows choice) (decodeLspFreq rows) ends ts ≡ 0 → ends .coder ≡ ends .decoder → runs ends ts .coder ≡ runs ends ts .decoder
+  pub equal-run : (ends : Ends) (ts : List Turn) → Both ends →
+      losses (quantiseBy rows choice) (decodeLspFreq rows) ends ts ≡ 0 → ends .coder ≡ ends .decoder →
+      runs ends ts .coder ≡ runs ends ts .decoder
   unfolding run
   equal-run ends [] b l e = e
   equal-run ends (t ∷ ts) b l e =
@@ -119,14 +125,16 @@ module _ (rows : List ℤ) (R : SmallRows rows) (choice : List Float → List Fl
   abbrev Bounded : ℕ → ℕ → ℕ → Type 0
   Bounded n d D = 8 ^ n * d + 3 ^ n * (32 * u) ≤ 3 ^ n * D + 8 ^ n * (32 * u)
 
-  not-counted : (ends : Ends) (t : Turn) (ts : List Turn) → arrives (quantiseBy rows choice) ends t ≡ false → count ends (t ∷ ts) ≡ count (next ends t) ts
+  not-counted : (ends : Ends) (t : Turn) (ts : List Turn) → arrives (quantiseBy rows choice) ends t ≡ false →
+      count ends (t ∷ ts) ≡ count (next ends t) ts
   unfolding tally
   not-counted ends t ts h = ap (λ (b : Bool). cond b 1 0 + count (next ends t) ts) h ∙ nothing (count (next ends t) ts)
     where
       nothing : (n : ℕ) → 0 + n ≡ n
       nothing n = omega arith
 
-  counted : (ends : Ends) (t : Turn) (ts : List Turn) → arrives (quantiseBy rows choice) ends t ≡ true → count ends (t ∷ ts) ≡ suc (count (next ends t) ts)
+  counted : (ends : Ends) (t : Turn) (ts : List Turn) → arrives (quantiseBy rows choice) ends t ≡ true →
+      count ends (t ∷ ts) ≡ suc (count (next ends t) ts)
   unfolding tally
   counted ends t ts h = ap (λ (b : Bool). cond b 1 0 + count (next ends t) ts) h ∙ one (count (next ends t) ts)
     where
@@ -137,7 +145,8 @@ module _ (rows : List ℤ) (R : SmallRows rows) (choice : List Float → List Fl
   Rest ends ts i = (D : ℕ) → apart ends i ≤ D → Bounded (count ends ts) (apart (runs ends ts) i) D
 
   -- a turn before a run
-  turn-before : (ends : Ends) (t : Turn) (ts : List Turn) → Both ends → loses (quantiseBy rows choice) ends t ≡ false → (i : ℕ) → i < 10 → Rest (next ends t) ts i →
+  turn-before : (ends : Ends) (t : Turn) (ts : List Turn) → Both ends →
+      loses (quantiseBy rows choice) ends t ≡ false → (i : ℕ) → i < 10 → Rest (next ends t) ts i →
       (D : ℕ) → apart ends i ≤ D → Bounded (count ends (t ∷ ts)) (apart (runs (next ends t) ts) i) D
   unfolding Rest
   turn-before ends t ts b l i h rest D d = go (sends (quantiseBy rows choice) ends t) refl
@@ -145,7 +154,8 @@ module _ (rows : List ℤ) (R : SmallRows rows) (choice : List Float → List Fl
       wider : (x e D k : ℕ) → e ≤ D → x ≤ 3 * e + k → x ≤ 3 * D + k
       wider x e D k h l = omega arith
 
-      go : (s : Bool) → sends (quantiseBy rows choice) ends t ≡ s → Bounded (count ends (t ∷ ts)) (apart (runs (next ends t) ts) i) D
+      go : (s : Bool) → sends (quantiseBy rows choice) ends t ≡ s →
+          Bounded (count ends (t ∷ ts)) (apart (runs (next ends t) ts) i) D
       go false e =
           subst (λ (m : ℕ). Bounded m (apart (runs (next ends t) ts) i) D) (sym (not-counted ends t ts (ap (λ (s : Bool). s && t .brings) e)))
           (rest D (subst (λ (x : Ends). apart x i ≤ D) (sym (not-sent ends t e)) d))
@@ -157,7 +167,9 @@ module _ (rows : List ℤ) (R : SmallRows rows) (choice : List Float → List Fl
           subst (λ (m : ℕ). Bounded m (apart (runs (next ends t) ts) i) D) (sym (counted ends t ts (ap (λ (s : Bool). s && t .brings) e ∙ br)))
           (more (count (next ends t) ts) (apart (runs (next ends t) ts) i) (apart (next ends t) i) D (32 * u) two (rest (apart (next ends t) i) (le-refl (apart (next ends t) i))))
 
-  pub closer-run : (ends : Ends) (ts : List Turn) → Both ends → losses (quantiseBy rows choice) (decodeLspFreq rows) ends ts ≡ 0 → (i : ℕ) → i < 10 → (D : ℕ) → apart ends i ≤ D → Bounded (count ends ts) (apart (runs ends ts) i) D
+  pub closer-run : (ends : Ends) (ts : List Turn) → Both ends →
+      losses (quantiseBy rows choice) (decodeLspFreq rows) ends ts ≡ 0 → (i : ℕ) → i < 10 → (D : ℕ) →
+      apart ends i ≤ D → Bounded (count ends ts) (apart (runs ends ts) i) D
   unfolding run tally Rest
   closer-run ends [] b l i h D d = none (apart ends i) D (32 * u) d
   closer-run ends (t ∷ ts) b l i h D d =

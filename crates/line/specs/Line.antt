@@ -6,7 +6,7 @@ use mathlib.Core.Bool.{Bool, _&&_, not, cond}
 use mathlib.Core.List.{List, [], _∷_}
 use lib.Dec.{eqb}
 use lib.Ieee.{Float}
-use Rattle.spec_lsp.specs.declared.decode.LspFreq.{LspFreq}
+use Rattle.float.specs.declared.Lines.{Lines}
 use Rattle.spec_lsp.specs.declared.quantise.Quantised.{Quantised}
 use Rattle.line.specs.declared.Turn.{Turn}
 use Rattle.line.specs.declared.Ends.{Ends}
@@ -19,7 +19,7 @@ abbrev pub Coder : Type 0
 Coder = Set → Set → Quantised
 
 abbrev pub Decoder : Type 0
-Decoder = ℕ → Set → LspFreq
+Decoder = ℕ → Set → Lines
 
 -- the coder refuses nothing, so it sends
 abbrev pub sends : Coder → Ends → Turn → Bool
@@ -33,7 +33,7 @@ loses quantise ends turn = sends quantise ends turn && not (turn .brings)
 
 -- the decoder's set after an index; were it refused, the set would stay
 abbrev pub received : Decoder → ℕ → Set → Set
-received decode index set = cond (eqb (decode index set .status) 0) (decode index set .set) set
+received decode index set = cond (eqb (decode index set .status) 0) (decode index set .lines) set
 
 -- one turn: a refusal ends it, and both sets stay
 unfoldable pub step : Coder → Decoder → Ends → Turn → Ends

@@ -4,9 +4,10 @@ ghost use Rattle.spec_tables.specs.Codebook.{lspRows};
 ghost use Rattle.spec_lsp.specs.Decode.{decodeLspFreq};
 ghost use Rattle.spec_lsp.specs.Quantise.{quantiseLspFreq};
 ghost use Rattle.line.specs.Line.{played};
-ghost use Rattle.line.specs.Claim.{resting, start};
+ghost use Rattle.line.specs.Claim.{start};
 use spec_lsp::decode;
 use spec_lsp::quantise;
+use spec_lsp::resting;
 
 // What the coder is given, and whether the line would bring its index.
 pub struct Turn {
@@ -27,23 +28,11 @@ pub struct Played {
     pub arrived: bool,
 }
 
-// The resting set, in singles.
-fn resting_set() -> [f32; 10]
-    ensures { λ r. ⌜ r ≡ resting ⌝ }
-{
-    let dc = spec_tables::lsp_dc_predicted_freq();
-    let mut set = [0.0f32; 10];
-    for i in 0..10 {
-        set[i] = dc[i] as f32;
-    }
-    set
-}
-
 // Both ends before the first turn.
 pub fn begin() -> Ends
     ensures { λ r. ⌜ r ≡ start ⌝ }
 {
-    let set = resting_set();
+    let set = resting::resting_set();
     Ends {
         coder: set,
         decoder: set,
@@ -89,7 +78,7 @@ pub fn play(ends: Ends, turn: Turn) -> Played
             arrived: true,
         };
     }
-    let next = got.set;
+    let next = got.lines;
     Played {
         ends: Ends {
             coder: set,

@@ -1,9 +1,9 @@
--- Levinson's recursion on the sums r[0..10], in doubles: order i finds the reflection k = −(r[i] + Σ a[j] r[i−j]) / error,
--- and the coefficients of order i are a[j] + k a[i−j], with k itself at place i.
+-- Levinson's recursion on the sums r[0..10], in doubles: order i finds the reflection k = −(r[i] + Σ a[j] r[i−j]) /
+-- error, and the coefficients of order i are a[j] + k a[i−j], with k itself at place i.
 -- §2.4; document 01, B9 and B10. Assumes nothing.
 use Prim.Native.Nat.{ℕ, _-_}
 use mathlib.Core.Bool.{Bool, true, false, cond, _&&_}
-use mathlib.Core.List.{List, [], _∷_}
+use mathlib.Core.List.{List, _∷_}
 use lib.Dec.{eqb, leb, ltb}
 use lib.Ieee.{Float, nan, lt, le, neg}
 use lib.ListN.{getD, replicate}

@@ -13,7 +13,8 @@ use Rattle.roots.proofs.Inside.{Cosine, roots-inside}
 use Rattle.lsp.specs.Pairs.{inTurn}
 
 -- the ten cosines of two sides
-pub cosines : (c d : List Float) (k : ℕ) → k < 10 → Cosine (getD (table 10 (inTurn (table 5 (rootsIn c (crossings c))) (table 5 (rootsIn d (crossings d))))) k nan)
+pub cosines : (c d : List Float) (k : ℕ) → k < 10 →
+    Cosine (getD (table 10 (inTurn (table 5 (rootsIn c (crossings c))) (table 5 (rootsIn d (crossings d))))) k nan)
 unfolding inTurn
 cosines c d k h =
     rw (at-table 10 (inTurn (table 5 (rootsIn c (crossings c))) (table 5 (rootsIn d (crossings d)))) k nan h)

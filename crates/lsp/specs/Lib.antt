@@ -1,4 +1,3 @@
 -- The line spectral pairs of a prediction filter. One notion a file.
-pub mod Answer
 pub mod Chebyshev
 pub mod Pairs

@@ -9,9 +9,9 @@ use lib.ListN.{getD}
 use Rattle.float.specs.Table.{table}
 use Rattle.float.specs.Finite.{notFinite}
 use Rattle.float.specs.Refusal.{first, answer}
+use Rattle.float.specs.Lines.{refusedLines}
+use Rattle.float.specs.declared.Lines.{Lines}
 use Rattle.roots.specs.Root.{crossings, rootsIn}
-use Rattle.lsp.specs.declared.LspSet.{LspSet}
-use Rattle.lsp.specs.Answer.{refusedLsp}
 use Rattle.lsp.specs.Chebyshev.{plusNext, minusNext, chebyshev}
 
 -- f1's first root, f2's first root, f1's second, ..
@@ -24,13 +24,13 @@ falling zero x = true
 falling (suc n) x = falling n x && lt (getD x (suc n) nan) (getD x n nan)
 
 -- 7 if either side, c or d, has under five roots, or the ten cosines do not fall
-unfoldable pub paired : List Float → List Float → LspSet
+unfoldable pub paired : List Float → List Float → Lines
 paired c d =
     let x = table 10 (inTurn (table 5 (rootsIn c (crossings c))) (table 5 (rootsIn d (crossings d)))) in
-    answer (first ((7, ltb (crossings c .count) 5) ∷ (7, ltb (crossings d .count) 5) ∷ (7, not (falling 9 x)) ∷ [])) refusedLsp
-    (record { status = 0; lsp = x })
+    answer (first ((7, ltb (crossings c .count) 5) ∷ (7, ltb (crossings d .count) 5) ∷ (7, not (falling 9 x)) ∷ []))
+    refusedLines (record { status = 0; lines = x })
 
 -- 5 for any coefficient, entry 0 too
-unfoldable pub lpcToLsp : List Float → LspSet
+unfoldable pub lpcToLsp : List Float → Lines
 lpcToLsp a =
-    answer (first ((5, notFinite a) ∷ [])) refusedLsp (paired (chebyshev (plusNext a)) (chebyshev (minusNext a)))
+    answer (first ((5, notFinite a) ∷ [])) refusedLines (paired (chebyshev (plusNext a)) (chebyshev (minusNext a)))

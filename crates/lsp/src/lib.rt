@@ -2,25 +2,11 @@
 ghost use mathlib.Core.Path.{_≡_};
 ghost use Rattle.float.specs.Table.{table};
 ghost use Rattle.quarter.specs.Quarter.{quarterTable};
-ghost use Rattle.lsp.specs.Answer.{refusedLsp};
+ghost use Rattle.roots.specs.Root.{rootsIn};
 ghost use Rattle.lsp.specs.Chebyshev.{seeded, plusNext, minusNext, factor};
 ghost use Rattle.lsp.specs.Pairs.{inTurn, falling, paired, lpcToLsp};
-
-// Ten cosines of line spectral pairs.
-pub struct LspSet {
-    pub status: u32,
-    pub lsp: [f32; 10],
-}
-
-// A refused set.
-pub fn refused_lsp(status: u32) -> LspSet
-    ensures { λ r. ⌜ r ≡ refusedLsp status ⌝ }
-{
-    LspSet {
-        status,
-        lsp: [0.0; 10],
-    }
-}
+use float::Lines;
+use roots::Crossings;
 
 // The sums of a filter, seeded 1: its side f1, and its side f2.
 fn sum_side(a: &[f32; 11]) -> [f32; 6]
@@ -73,6 +59,15 @@ fn take_turns(p: [f32; 5], q: [f32; 5]) -> [f32; 10]
     out
 }
 
+// The roots of both sides, each refined from where it was met.
+fn ten_roots(c: &[f64; 6], p: Crossings, d: &[f64; 6], q: Crossings) -> [f32; 10]
+    ensures { λ r. ⌜ r ≡ table 10 (inTurn (table 5 (rootsIn (now (c .entry)) p)) (table 5 (rootsIn (now (d .entry)) q))) ⌝ }
+{
+    let x = roots::refine(c, p);
+    let y = roots::refine(d, q);
+    take_turns(x, y)
+}
+
 fn is_falling(x: &[f32; 10]) -> bool
     ensures { λ r. ⌜ r ≡ falling 9 (now (x .entry)) ⌝ }
 {
@@ -83,34 +78,34 @@ fn is_falling(x: &[f32; 10]) -> bool
     falls
 }
 
-fn pair(t: &[u32; 2049], c: &[f64; 6], d: &[f64; 6]) -> LspSet
+// The roots of the two sides in turn. A refusal here is due only once the roots are known; where a side has too few, none is refined.
+fn pair(t: &[u32; 2049], c: &[f64; 6], d: &[f64; 6]) -> Lines
     requires { ⌜ now t ≡ quarterTable ⌝ }
     ensures { λ r. ⌜ r ≡ paired (now (c .entry)) (now (d .entry)) ⌝ }
 {
     let p = roots::scan(t, c);
     if p.count < 5 {
-        return refused_lsp(7);
+        return float::refused_lines(7);
     }
     let q = roots::scan(t, d);
     if q.count < 5 {
-        return refused_lsp(7);
+        return float::refused_lines(7);
     }
-    let x = roots::refine(c, p);
-    let y = roots::refine(d, q);
-    let lsp = take_turns(x, y);
-    let falls = is_falling(&lsp);
+    let lines = ten_roots(c, p, d, q);
+    let falls = is_falling(&lines);
     if !falls {
-        return refused_lsp(7);
+        return float::refused_lines(7);
     }
-    LspSet { status: 0, lsp }
+    Lines { status: 0, lines }
 }
 
-pub fn lpc_to_lsp(a: [f32; 11]) -> LspSet
+// The cosines of a filter's line spectral pairs. Refusals: 5; 7 where five roots a side do not make ten that fall.
+pub fn lpc_to_lsp(a: [f32; 11]) -> Lines
     ensures { λ r. ⌜ r ≡ lpcToLsp a ⌝ }
 {
-    let finite = float::all_finite(&a);
-    if !finite {
-        return refused_lsp(5);
+    let status = float::check_finite(&a);
+    if status != 0 {
+        return float::refused_lines(status);
     }
     let t = quarter::entries();
     let f1 = sum_side(&a);

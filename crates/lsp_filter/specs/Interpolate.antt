@@ -1,7 +1,7 @@
 -- `interpolate_lsp`: ten cosines between the previous frame's and this frame's.
 -- Document 01, B42 and B43. Assumes nothing.
 use Prim.Native.Nat.{ℕ}
-use mathlib.Core.Bool.{_||_}
+use mathlib.Core.Bool.{Bool, _||_}
 use mathlib.Core.List.{List, [], _∷_}
 use lib.Ieee.{Float, nan}
 use lib.ListN.{getD}
@@ -9,8 +9,8 @@ use Rattle.float.specs.Table.{table}
 use Rattle.float.specs.Finite.{notFinite}
 use Rattle.float.specs.Refusal.{first, answer}
 use Rattle.float.specs.Single.{_⊕_, _⊗_, single}
-use Rattle.lsp.specs.declared.LspSet.{LspSet}
-use Rattle.lsp.specs.Answer.{refusedLsp}
+use Rattle.float.specs.Lines.{refusedLines}
+use Rattle.float.specs.declared.Lines.{Lines}
 
 -- choices 0, 1, 2; all others weigh the previous set 0 and this one 1
 unfoldable pub previousWeight : ℕ → Float
@@ -23,7 +23,10 @@ unfoldable pub weighed : ℕ → List Float → List Float → ℕ → Float
 weighed choice prev cur i = previousWeight choice ⊗ getD prev i nan ⊕ currentWeight choice ⊗ getD cur i nan
 
 -- 5 for any float of either set
-unfoldable pub interpolateLsp : ℕ → List Float → List Float → LspSet
+abbrev pub setRefusals : List Float → List Float → List (ℕ × Bool)
+setRefusals prev cur = (5, notFinite prev || notFinite cur) ∷ []
+
+unfoldable pub interpolateLsp : ℕ → List Float → List Float → Lines
 interpolateLsp choice prev cur =
-    answer (first ((5, notFinite prev || notFinite cur) ∷ [])) refusedLsp
-    (record { status = 0; lsp = table 10 (weighed choice prev cur) })
+    answer (first (setRefusals prev cur)) refusedLines
+    (record { status = 0; lines = table 10 (weighed choice prev cur) })

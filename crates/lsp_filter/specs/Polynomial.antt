@@ -38,11 +38,11 @@ minusFactor q i = single 0 1 ⊖ getD q (i - 1) nan ⊕ getD q i nan
 unfoldable pub halfSum : List Float → List Float → ℕ → Float
 halfSum p q i = cond (eqb i 0) (single 1 1) (single 1 2 ⊗ (plusFactor p i ⊕ minusFactor q i))
 
--- 5 for any cosine
 -- a refused filter: the number of the refusal, and zeros
 unfoldable pub refusedLpc : ℕ → LpcCoefficients
 refusedLpc n = record { status = n; a = replicate 11 (single 0 1) }
 
+-- 5 for any cosine
 unfoldable pub lspToLpc : List Float → LpcCoefficients
 lspToLpc lsp =
     answer (first ((5, notFinite lsp) ∷ [])) refusedLpc

@@ -2,9 +2,10 @@
 ghost use mathlib.Core.Path.{_≡_};
 ghost use Prim.Native.Nat.{_≤_};
 ghost use Rattle.float.specs.Table.{table};
-ghost use Rattle.lsp_filter.specs.Interpolate.{previousWeight, currentWeight, weighed, interpolateLsp};
+ghost use Rattle.float.specs.Refusal.{first};
+ghost use Rattle.lsp_filter.specs.Interpolate.{previousWeight, currentWeight, weighed, setRefusals, interpolateLsp};
 ghost use Rattle.lsp_filter.specs.Polynomial.{refusedLpc, quadratic, side, halfSum, lspToLpc};
-use lsp::LspSet;
+use float::Lines;
 
 // Eleven coefficients of a prediction filter.
 pub struct LpcCoefficients {
@@ -55,16 +56,29 @@ fn weigh(choice: usize, prev: &[f32; 10], cur: &[f32; 10]) -> [f32; 10]
     lsp
 }
 
-pub fn interpolate_lsp(choice: usize, prev: [f32; 10], cur: [f32; 10]) -> LspSet
+// The first refusal due: 5 for any float of either set.
+fn check_sets(prev: &[f32], cur: &[f32]) -> u32
+    ensures { λ r. ⌜ r ≡ first (setRefusals (now (prev .entry)) (now (cur .entry))) ⌝ }
+{
+    if !float::all_finite(prev) {
+        return 5;
+    }
+    if !float::all_finite(cur) {
+        return 5;
+    }
+    0
+}
+
+// The lines of a subframe between the last frame's and this one's. Refusals: 5.
+pub fn interpolate_lsp(choice: usize, prev: [f32; 10], cur: [f32; 10]) -> Lines
     ensures { λ r. ⌜ r ≡ interpolateLsp choice prev cur ⌝ }
 {
-    let finite_prev = float::all_finite(&prev);
-    let finite_cur = float::all_finite(&cur);
-    if !(finite_prev & finite_cur) {
-        return lsp::refused_lsp(5);
+    let status = check_sets(&prev, &cur);
+    if status != 0 {
+        return float::refused_lines(status);
     }
-    let lsp = weigh(choice, &prev, &cur);
-    LspSet { status: 0, lsp }
+    let lines = weigh(choice, &prev, &cur);
+    Lines { status: 0, lines }
 }
 
 fn refused_lpc(status: u32) -> LpcCoefficients
@@ -117,12 +131,13 @@ fn join_sides(p: &[f32; 11], q: &[f32; 11]) -> [f32; 11]
     a
 }
 
+// The prediction filter of a line set. Refusals: 5.
 pub fn lsp_to_lpc(lsp: [f32; 10]) -> LpcCoefficients
     ensures { λ r. ⌜ r ≡ lspToLpc lsp ⌝ }
 {
-    let finite = float::all_finite(&lsp);
-    if !finite {
-        return refused_lpc(5);
+    let status = float::check_finite(&lsp);
+    if status != 0 {
+        return refused_lpc(status);
     }
     let p = side_of(&lsp, 0);
     let q = side_of(&lsp, 1);

@@ -2,3 +2,4 @@
 pub mod Pitch
 pub mod Gate
 pub mod Shaping
+pub mod inner

@@ -45,10 +45,15 @@ settings limit f o l = shaped f o (winner greater f o 60 (max 18 (l - 3)) (suc (
 unfoldable pub refusedShaping : ℕ → Shaping
 refusedShaping n = record { status = n; params = record { lag = 0; beta = single 0 1 } }
 
+-- the samples that count: limit + 3 before the place, and 60 from it on
+abbrev pub read : ℕ → List Float → ℕ → List Float
+read limit w place = take (limit + 63) (drop (place - (limit + 3)) w)
+
 -- 4 if l is outside 18..limit; 3 if the place is below limit + 3 or fewer than 60 samples stand from it on; 5 from place − (limit + 3) to place + 59
+abbrev pub shapingRefusals : ℕ → List Float → ℕ → ℕ → List (ℕ × Bool)
+shapingRefusals limit w place l =
+    (4, ltb l 18 || ltb limit l) ∷ (3, ltb place (limit + 3) || ltb (length w) (place + 60)) ∷ (5, notFinite (read limit w place)) ∷ []
+
 unfoldable pub harmonicNoiseShaping : ℕ → List Float → ℕ → ℕ → Shaping
 harmonicNoiseShaping limit w place l =
-    answer
-    (first ((4, ltb l 18 || ltb limit l) ∷ (3, ltb place (limit + 3) || ltb (length w) (place + 60)) ∷ (5, notFinite (take (limit + 63) (drop (place - (limit + 3)) w))) ∷ []))
-    refusedShaping
-    (record { status = 0; params = settings limit w place l })
+    answer (first (shapingRefusals limit w place l)) refusedShaping (record { status = 0; params = settings limit w place l })

@@ -6,9 +6,12 @@ ghost use lib.Ieee.{nan};
 ghost use lib.ListN.{getD};
 ghost use Rattle.float.specs.Table.{table};
 ghost use Rattle.float.specs.Double.{_⊠_};
+ghost use Rattle.float.specs.Refusal.{first};
+ghost use Rattle.lags.specs.Search.{winner, preferred};
 ghost use Rattle.pitch.specs.Gate.{atMostOne, passes};
-ghost use Rattle.pitch.specs.Pitch.{refusedPitch, openLoopPitch};
-ghost use Rattle.pitch.specs.Shaping.{shapingOff, held, factor, settled, settings, refusedShaping, harmonicNoiseShaping};
+ghost use Rattle.pitch.specs.Pitch.{refusedPitch, start, pitchRefusals, openLoopPitch};
+ghost use Rattle.pitch.specs.inner.Readable.{Half, Subframe};
+ghost use Rattle.pitch.specs.Shaping.{shapingOff, held, factor, settled, settings, refusedShaping, shapingRefusals, harmonicNoiseShaping};
 
 // The open-loop lag of one half of the frame.
 pub struct OpenLoop {
@@ -42,32 +45,50 @@ fn refused_pitch(status: u32) -> OpenLoop
     OpenLoop { status, lag: 0 }
 }
 
-// Half 0 or 1 of the frame that follows 145 samples of history.
-pub fn open_loop_pitch(wbuf: &[f32], half: usize) -> OpenLoop
-    ensures { λ r. ⌜ r ≡ openLoopPitch 142 (now (wbuf .entry)) half ⌝ }
+// The first refusal due: 2 if half > 1; 1 if shorter than what is read; 5 for any sample before the half's end.
+fn check_half(wbuf: &[f32], half: usize) -> u32
+    ensures { λ r. ⌜ r ≡ first (pitchRefusals 142 (now (wbuf .entry)) half) ⌝ }
 {
     if 1 < half {
-        return refused_pitch(2);
+        return 2;
     }
-    let o = 145 + 120 * half;
-    let end = o + 120;
+    let end = 145 + 120 * half + 120;
     if wbuf.len() < end {
-        return refused_pitch(1);
+        return 1;
     }
     let head = &wbuf[0..end];
     let fine = float::all_finite(head);
     if !fine {
-        return refused_pitch(5);
+        return 5;
     }
+    0
+}
+
+// The lag of a half that the check has passed.
+fn search_half(wbuf: &[f32], half: usize) -> u32
+    requires { ⌜ Half 142 (now wbuf) half ⌝ }
+    ensures { λ r. ⌜ r ≡ winner preferred (now (wbuf .entry)) (start 142 half) 120 18 143 .lag ⌝ }
+{
+    let o = 145 + 120 * half;
+    let end = o + 120;
     let mut x = [0.0f64; 265];
     lags::widen(&mut x, &wbuf[o - 145..end]);
     let mut squares = [0.0f64; 265];
     lags::square(&mut squares, &x);
     let best = lags::search_in(&x, &squares, 142);
-    OpenLoop {
-        status: 0,
-        lag: best.lag,
+    best.lag
+}
+
+// Half 0 or 1 of the frame that follows 145 samples of history.
+pub fn open_loop_pitch(wbuf: &[f32], half: usize) -> OpenLoop
+    ensures { λ r. ⌜ r ≡ openLoopPitch 142 (now (wbuf .entry)) half ⌝ }
+{
+    let status = check_half(wbuf, half);
+    if status != 0 {
+        return refused_pitch(status);
     }
+    let lag = search_half(wbuf, half);
+    OpenLoop { status: 0, lag }
 }
 
 // ---- harmonic noise shaping
@@ -161,35 +182,54 @@ fn shaping_in(x: &[f64; 265], squares: &[f64; 265], limit: u32, l: u32) -> HnsPa
     settle(best, e, sums.cross[i] / sums.power[i])
 }
 
-// The subframe of 60 samples at place, with 145 samples before it, around the open-loop lag.
-pub fn harmonic_noise_shaping(wbuf: &[f32], place: usize, l_ol: u32) -> Shaping
-    ensures { λ r. ⌜ r ≡ harmonicNoiseShaping 142 (now (wbuf .entry)) place «l_ol» ⌝ }
+// The first refusal due: 4 for a lag outside 18..142; 3 for a place with too few samples before or after it; 5 for any sample that is read.
+fn check_shaping(wbuf: &[f32], place: usize, l_ol: u32) -> u32
+    ensures { λ r. ⌜ r ≡ first (shapingRefusals 142 (now (wbuf .entry)) place «l_ol») ⌝ }
 {
     if l_ol < 18 {
-        return refused_shaping(4);
+        return 4;
     }
     if 142 < l_ol {
-        return refused_shaping(4);
+        return 4;
     }
     if place < 145 {
-        return refused_shaping(3);
+        return 3;
     }
     // place + 60 could wrap
     if wbuf.len() < place {
-        return refused_shaping(3);
+        return 3;
     }
     if wbuf.len() - place < 60 {
-        return refused_shaping(3);
+        return 3;
     }
     let part = &wbuf[place - 145..place + 60];
     let fine = float::all_finite(part);
     if !fine {
-        return refused_shaping(5);
+        return 5;
     }
+    0
+}
+
+// The settings at a place that the check has passed.
+fn shaping_at(wbuf: &[f32], place: usize, l_ol: u32) -> HnsParams
+    requires { ⌜ Subframe 142 (now wbuf) place «l_ol» ⌝ }
+    ensures { λ r. ⌜ r ≡ settings 142 (now (wbuf .entry)) place «l_ol» ⌝ }
+{
     let mut x = [0.0f64; 265];
-    lags::widen(&mut x, part);
+    lags::widen(&mut x, &wbuf[place - 145..place + 60]);
     let mut squares = [0.0f64; 265];
     lags::square(&mut squares, &x);
-    let params = shaping_in(&x, &squares, 142, l_ol);
+    shaping_in(&x, &squares, 142, l_ol)
+}
+
+// The subframe of 60 samples at place, with 145 samples before it, around the open-loop lag.
+pub fn harmonic_noise_shaping(wbuf: &[f32], place: usize, l_ol: u32) -> Shaping
+    ensures { λ r. ⌜ r ≡ harmonicNoiseShaping 142 (now (wbuf .entry)) place «l_ol» ⌝ }
+{
+    let status = check_shaping(wbuf, place, l_ol);
+    if status != 0 {
+        return refused_shaping(status);
+    }
+    let params = shaping_at(wbuf, place, l_ol);
     Shaping { status: 0, params }
 }

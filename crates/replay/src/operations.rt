@@ -95,7 +95,7 @@ fn lpc_to_lsp(words: &[u32; 512]) -> bool {
     let mut a = [0.0f32; 11];
     load(words, 1, &mut a);
     let answer = lsp::lpc_to_lsp(a);
-    let lines = answer.lsp;
+    let lines = answer.lines;
     let same = matches(&lines, words, 13);
     (answer.status == words[12]) & same
 }
@@ -133,7 +133,7 @@ fn decode_lsp_freq(words: &[u32; 512]) -> bool {
     let mut prev = [0.0f32; 10];
     load(words, 2, &mut prev);
     let answer = spec_lsp::decode::decode_lsp_freq(words[1], prev);
-    let set = answer.set;
+    let set = answer.lines;
     let same = matches(&set, words, 13);
     (answer.status == words[12]) & same
 }
@@ -155,7 +155,7 @@ fn interpolate_lsp(words: &[u32; 512]) -> bool {
     load(words, 13, &mut cur);
     let choice = wide(words[1], words[2]) as usize;
     let answer = lsp_filter::interpolate_lsp(choice, prev, cur);
-    let lines = answer.lsp;
+    let lines = answer.lines;
     let same = matches(&lines, words, 24);
     (answer.status == words[23]) & same
 }

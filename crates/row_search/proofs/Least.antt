@@ -1,10 +1,10 @@
 -- What the search finds, for any errors, infinities and NaN among them: no row's error is smaller than that of the row found, none before it has an error
 -- that is no larger, and it is one of the rows. Assumes nothing.
-use mathlib.Core.Path.{_≡_, refl, sym, ap, _∙_, subst}
+use mathlib.Core.Path.{_≡_, refl, subst}
 use mathlib.Core.Logic.{_⊎_, inl, inr}
 use mathlib.Core.Bool.{Bool, true, false, cond}
-use Prim.Native.Nat.{ℕ, zero, suc, _≤_, _<_}
-use native.Mathlib.Nat.{not-suc-le-zero, zero-lt-suc, lt-of-lt-of-le, le-suc}
+use Prim.Native.Nat.{ℕ, zero, suc, _<_}
+use native.Mathlib.Nat.{not-suc-le-zero}
 use native.Mathlib.Omega.{arith}
 use lib.Dec.{T}
 use lib.Ieee.{Float, nan, inf, fin, lt, le}
@@ -19,7 +19,8 @@ record Least (error : ℕ → Float) (n : ℕ) (found : Float × ℕ) : Type 0 w
   is : (found .0 ≡ error (found .1)) ⊎ ((found .0 ≡ inf false) × (found .1 ≡ 0))
   one : (found .1 ≡ 0) ⊎ (found .1 < n)
 
-step : (error : ℕ → Float) (n : ℕ) (found : Float × ℕ) (b : Bool) → lt (error n) (found .0) ≡ b → Least error n found → Least error (suc n) (cond b (error n, n) found)
+step : (error : ℕ → Float) (n : ℕ) (found : Float × ℕ) (b : Bool) → lt (error n) (found .0) ≡ b →
+    Least error n found → Least error (suc n) (cond b (error n, n) found)
 step error n found true h r =
     let t : T (lt (error n) (found .0)) = rw h tt in
     record {
@@ -67,7 +68,8 @@ none-smaller error n k l = go (least error n .is)
     r : Least error n (among error n)
     r = least error n
 
-    go : (among error n .0 ≡ error (best error n)) ⊎ ((among error n .0 ≡ inf false) × (best error n ≡ 0)) → T (lt (error k) (error (best error n))) → ⊥
+    go : (among error n .0 ≡ error (best error n)) ⊎ ((among error n .0 ≡ inf false) × (best error n ≡ 0)) →
+        T (lt (error k) (error (best error n))) → ⊥
     go (inl e) t = r .none-smaller k l (rw e t)
     go (inr p) t =
         top (error (best error n)) (error k)
@@ -78,7 +80,8 @@ none-smaller error n k l = go (least error n .is)
 pub none-before : (error : ℕ → Float) (n k : ℕ) → k < best error n → T (le (error k) (error (best error n))) → ⊥
 none-before error n k l = go (least error n .is)
   where
-    go : (among error n .0 ≡ error (best error n)) ⊎ ((among error n .0 ≡ inf false) × (best error n ≡ 0)) → T (le (error k) (error (best error n))) → ⊥
+    go : (among error n .0 ≡ error (best error n)) ⊎ ((among error n .0 ≡ inf false) × (best error n ≡ 0)) →
+        T (le (error k) (error (best error n))) → ⊥
     go (inl e) t = least error n .none-before k l (rw e t)
     go (inr p) t = absurd (not-suc-le-zero (subst (λ (b : ℕ). k < b) (p .1) l))
 

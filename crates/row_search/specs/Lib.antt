@@ -1,3 +1,3 @@
 pub mod Error
 pub mod Search
-pub mod Four
+pub mod inner

@@ -1,10 +1,11 @@
 -- The search: of a number of rows the one whose error is smallest, and of those the first (document 01, B26). Only an error below the smallest one so far
 -- takes its place, from infinity on. Its laws are in `proofs/Least.antt`. Assumes nothing.
-use Prim.Native.Nat.{ℕ, zero, suc, _+_, _*_}
+use Prim.Native.Nat.{ℕ, zero, suc}
 use mathlib.Core.Bool.{false, cond}
 use mathlib.Core.List.{List}
 use lib.IntN.{ℤ}
 use lib.Ieee.{Float, inf, lt}
+use Rattle.spec_tables.specs.Rows.{rowAt}
 use Rattle.row_search.specs.Error.{rowError}
 
 -- an error and its index, after the smallest so far and its index
@@ -19,6 +20,6 @@ among error (suc n) = better (error n) n (among error n)
 abbrev pub best : (ℕ → Float) → ℕ → ℕ
 best error n = among error n .1
 
--- the errors of rows that stand one after the other from place `first` on
+-- the errors of rows that stand one after the other, `width` numbers to a row, from place `first` on
 abbrev pub errors : List Float → List Float → ℕ → List ℤ → ℕ → ℕ → ℕ → Float
-errors target weights start rows width first index = rowError target weights start rows width (first + index * width)
+errors target weights start rows width first index = rowError target weights start (rowAt rows width first index)

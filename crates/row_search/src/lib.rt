@@ -3,9 +3,10 @@
 ghost use mathlib.Core.Path.{_≡_};
 ghost use Prim.Native.Nat.{_+_, _*_, _≤_};
 ghost use lib.ListN.{length};
+ghost use Rattle.spec_tables.specs.Rows.{rowFrom};
 ghost use Rattle.row_search.specs.Error.{rowError};
 ghost use Rattle.row_search.specs.Search.{better, best, errors};
-ghost use Rattle.row_search.specs.Four.{pair, fourRows};
+ghost use Rattle.row_search.specs.inner.Four.{pair, fourRows};
 
 // The smallest error so far and its index.
 struct Smallest {
@@ -23,7 +24,7 @@ pub fn row_error(
     start: usize,
 ) -> f32
     requires { ⌜ (place + width ≤ length (now rows)) × (start + width ≤ length (now target)) × (start + width ≤ length (now weights)) ⌝ }
-    ensures { λ r. ⌜ r ≡ rowError (now (target .entry)) (now (weights .entry)) start (now (rows .entry)) width place ⌝ }
+    ensures { λ r. ⌜ r ≡ rowError (now (target .entry)) (now (weights .entry)) start (rowFrom (now (rows .entry)) width place) ⌝ }
 {
     let mut error = 0.0f32;
     for j in 0..width {
@@ -71,26 +72,35 @@ fn four_rows(
     i: usize,
 ) -> Smallest
     requires { ⌜ (place + 4 * width ≤ length (now rows)) × (start + width ≤ length (now target)) × (start + width ≤ length (now weights)) × (i + 3 ≤ 18446744073709551615) ⌝ }
-    ensures { λ r. ⌜ pair r ≡ fourRows (rowError (now (target .entry)) (now (weights .entry)) start (now (rows .entry)) width) width place i (pair best) ⌝ }
+    ensures { λ r. ⌜ pair r ≡ fourRows (λ p. rowError (now (target .entry)) (now (weights .entry)) start (rowFrom (now (rows .entry)) width p)) width place i (pair best) ⌝ }
 {
     if width == 3 {
+        let second = place + 3;
+        let third = second + 3;
+        let fourth = third + 3;
         let a = row_error(rows, place, 3, target, weights, start);
-        let b = row_error(rows, place + 3, 3, target, weights, start);
-        let c = row_error(rows, place + 6, 3, target, weights, start);
-        let d = row_error(rows, place + 9, 3, target, weights, start);
+        let b = row_error(rows, second, 3, target, weights, start);
+        let c = row_error(rows, third, 3, target, weights, start);
+        let d = row_error(rows, fourth, 3, target, weights, start);
         return offer_four(best, a, b, c, d, i);
     }
     if width == 4 {
+        let second = place + 4;
+        let third = second + 4;
+        let fourth = third + 4;
         let a = row_error(rows, place, 4, target, weights, start);
-        let b = row_error(rows, place + 4, 4, target, weights, start);
-        let c = row_error(rows, place + 8, 4, target, weights, start);
-        let d = row_error(rows, place + 12, 4, target, weights, start);
+        let b = row_error(rows, second, 4, target, weights, start);
+        let c = row_error(rows, third, 4, target, weights, start);
+        let d = row_error(rows, fourth, 4, target, weights, start);
         return offer_four(best, a, b, c, d, i);
     }
+    let second = place + width;
+    let third = second + width;
+    let fourth = third + width;
     let a = row_error(rows, place, width, target, weights, start);
-    let b = row_error(rows, place + width, width, target, weights, start);
-    let c = row_error(rows, place + 2 * width, width, target, weights, start);
-    let d = row_error(rows, place + 3 * width, width, target, weights, start);
+    let b = row_error(rows, second, width, target, weights, start);
+    let c = row_error(rows, third, width, target, weights, start);
+    let d = row_error(rows, fourth, width, target, weights, start);
     offer_four(best, a, b, c, d, i)
 }
 

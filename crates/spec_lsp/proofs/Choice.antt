@@ -1,28 +1,24 @@
 -- The row that a band takes is one of its 256, none of them has a smaller error, and none before it one as small: the search's laws at the bands. Assumes nothing.
-use Prim.Native.Nat.{ℕ, _*_, _<_}
+use Prim.Native.Nat.{ℕ, _<_}
 use mathlib.Core.List.{List}
 use lib.Dec.{T, lit<}
 use lib.IntN.{ℤ}
 use lib.Ieee.{Float, lt, le}
-use Rattle.spec_tables.specs.Band.{placeOf}
 use Rattle.spec_tables.specs.declared.LspBand.{LspBand}
-use Rattle.row_search.specs.Search.{errors}
 use Rattle.row_search.proofs.Least.{none-smaller, none-before, best-lt}
-use Rattle.spec_lsp.specs.Quantise.{chosen}
-
--- the error of a band's row
-abbrev pub bandError : List ℤ → List Float → List Float → LspBand → ℕ → Float
-bandError rows t w band = errors t w (placeOf band .start) rows (placeOf band .length) (256 * placeOf band .start)
+use Rattle.spec_lsp.specs.Quantise.{bandError, chosen}
 
 module _ (rows : List ℤ) (t w : List Float) (band : LspBand) where
   pub chosen-lt : chosen rows t w band < 256
   unfolding chosen
   chosen-lt = best-lt (bandError rows t w band) 256 (lit< tt)
 
-  pub none-smaller-chosen : (k : ℕ) → k < 256 → T (lt (bandError rows t w band k) (bandError rows t w band (chosen rows t w band))) → ⊥
+  pub none-smaller-chosen : (k : ℕ) → k < 256 →
+      T (lt (bandError rows t w band k) (bandError rows t w band (chosen rows t w band))) → ⊥
   unfolding chosen
   none-smaller-chosen k h = none-smaller (bandError rows t w band) 256 k h
 
-  pub none-before-chosen : (k : ℕ) → k < chosen rows t w band → T (le (bandError rows t w band k) (bandError rows t w band (chosen rows t w band))) → ⊥
+  pub none-before-chosen : (k : ℕ) → k < chosen rows t w band →
+      T (le (bandError rows t w band k) (bandError rows t w band (chosen rows t w band))) → ⊥
   unfolding chosen
   none-before-chosen k h = none-before (bandError rows t w band) 256 k h

@@ -1,24 +1,22 @@
 -- The quantiser of a line set (§2.5, steps 2 to 5): in each band the row of smallest weighted squared error against what the previous set does not foretell.
 -- Document 01, B23 to B30; `rows` is any list of code rows. The set is the decoder's by definition. Assumes nothing.
-use Prim.Native.Nat.{ℕ, zero, suc, _+_, _*_}
-use mathlib.Core.Bool.{false, _||_, cond}
-use mathlib.Core.List.{List, [], _∷_}
+use Prim.Native.Nat.{ℕ, zero, suc, _+_}
+use mathlib.Core.Bool.{Bool, _||_, cond}
+use mathlib.Core.List.{List, [], _∷_, map}
 use lib.Dec.{eqb}
-use lib.IntN.{ℤ, pos}
-use lib.ListN.{replicate}
-use lib.Ieee.{Float, fin, lt}
+use lib.IntN.{ℤ}
+use lib.Ieee.{Float, lt}
 use Rattle.float.specs.Table.{table}
 use Rattle.float.specs.Refusal.{first, answer}
 use Rattle.float.specs.Finite.{notFinite, anyExceeds}
 use Rattle.float.specs.Single.{_⊖_, _⊘_, single}
-use Rattle.float.specs.Vector.{at}
+use Rattle.float.specs.Vector.{at, zeros}
 use Rattle.spec_tables.specs.Tables.{dcFreq}
-use Rattle.spec_tables.specs.Rows.{rowPlace}
-use Rattle.spec_tables.specs.Band.{placeOf}
+use Rattle.spec_tables.specs.Rows.{row}
+use Rattle.spec_tables.specs.Band.{placeOf, allBands}
 use Rattle.spec_tables.specs.declared.LspBand.{LspBand}
-use Rattle.spec_tables.specs.declared.LspBand.the-variants.{Band0, Band1, Band2}
-use Rattle.row_search.specs.Error.{number}
-use Rattle.row_search.specs.Search.{best, errors}
+use Rattle.row_search.specs.Error.{number, rowError}
+use Rattle.row_search.specs.Search.{best}
 use Rattle.spec_lsp.specs.Index.{combine}
 use Rattle.spec_lsp.specs.Decode.{predicted, decoded}
 use Rattle.spec_lsp.specs.declared.quantise.Quantised.{Quantised}
@@ -48,28 +46,31 @@ weights p = table 10 (λ i. weightOf (nearest p i))
 unfoldable pub target : List Float → List Float → List Float
 target p prev = table 10 (λ i. at p i ⊖ number dcFreq i ⊖ predicted (at prev i) (number dcFreq i))
 
--- the row that a band takes, and the index of all three
+-- the error of a band's row, the row that a band takes of its 256, and the index of all three
+abbrev pub bandError : List ℤ → List Float → List Float → LspBand → ℕ → Float
+bandError rows t w band index = rowError t w (placeOf band .start) (row rows band index)
+
 unfoldable pub chosen : List ℤ → List Float → List Float → LspBand → ℕ
-chosen rows t w band = best (errors t w (placeOf band .start) rows (placeOf band .length) (256 * placeOf band .start)) 256
+chosen rows t w band = best (bandError rows t w band) 256
 
 unfoldable pub indexOf : List ℤ → List Float → List Float → ℕ
-indexOf rows p prev =
-    let t = target p prev in
-    let w = weights p in
-    combine (chosen rows t w Band0 ∷ chosen rows t w Band1 ∷ chosen rows t w Band2 ∷ [])
+indexOf rows p prev = combine (map (chosen rows (target p prev) (weights p)) allBands)
 
 abbrev pub refusedIndex : ℕ → Quantised
-refusedIndex n = record { status = n; index = 0; set = replicate 10 (fin false 0 (pos 0)) }
+refusedIndex n = record { status = n; index = 0; set = zeros 10 }
 
 abbrev pub quantisedAs : List ℤ → ℕ → List Float → Quantised
 quantisedAs rows index prev = record { status = 0; index = index; set = decoded rows index prev }
 
+abbrev pub quantiseRefusals : List Float → List Float → List (ℕ × Bool)
+quantiseRefusals p prev =
+    (5, notFinite p || notFinite prev) ∷
+    (6, anyExceeds (single 65536 1) p || anyExceeds (single 65536 1) prev) ∷
+    []
+
 -- with any choice of an index, and with the search's
 unfoldable pub quantiseBy : List ℤ → (List Float → List Float → ℕ) → List Float → List Float → Quantised
-quantiseBy rows choice p prev =
-    answer (first ((5, notFinite p || notFinite prev) ∷ (6, anyExceeds (single 65536 1) p || anyExceeds (single 65536 1) prev) ∷ []))
-    refusedIndex
-    (quantisedAs rows (choice p prev) prev)
+quantiseBy rows choice p prev = answer (first (quantiseRefusals p prev)) refusedIndex (quantisedAs rows (choice p prev) prev)
 
 unfoldable pub quantiseLspFreq : List ℤ → List Float → List Float → Quantised
 quantiseLspFreq rows p prev = quantiseBy rows (indexOf rows) p prev

@@ -3,3 +3,4 @@
 pub mod decode;
 pub mod index;
 pub mod quantise;
+pub mod resting;

@@ -1,8 +1,10 @@
 // The quantiser of a line set (§2.5): its index is what is sent, and its set is what the decoder makes of that.
 ghost use mathlib.Core.Path.{_≡_};
 ghost use Prim.Native.Nat.{_<_};
+ghost use Rattle.float.specs.Refusal.{first};
 ghost use Rattle.spec_tables.specs.Codebook.{lspRows};
-ghost use Rattle.spec_lsp.specs.Quantise.{smaller, larger, weightOf, nearest, weights, target, chosen, indexOf, refusedIndex, quantiseLspFreq};
+ghost use Rattle.spec_lsp.specs.Quantise.{smaller, larger, weightOf, nearest, weights, target, chosen, indexOf};
+ghost use Rattle.spec_lsp.specs.Quantise.{refusedIndex, quantiseRefusals, quantiseLspFreq};
 use crate::decode;
 use crate::index;
 use spec_tables::LspBand;
@@ -84,11 +86,9 @@ fn residual_target(p: [f32; 10], prev: [f32; 10]) -> [f32; 10]
 fn choose(rows: &[i16; 2560], target: &[f32; 10], weights: &[f32; 10], band: LspBand) -> u8
     ensures { λ r. ⌜ r ≡ chosen (now (rows .entry)) (now (target .entry)) (now (weights .entry)) band ⌝ }
 {
-    match band {
-        LspBand::Band0 => row_search::best_row(rows, 0, 3, 256, target, weights, 0) as u8,
-        LspBand::Band1 => row_search::best_row(rows, 768, 3, 256, target, weights, 3) as u8,
-        LspBand::Band2 => row_search::best_row(rows, 1536, 4, 256, target, weights, 6) as u8,
-    }
+    let first = band.first_row();
+    let place = band.start_and_length();
+    row_search::best_row(rows, first, place.length, 256, target, weights, place.start) as u8
 }
 
 fn best_index(rows: &[i16; 2560], p: [f32; 10], prev: [f32; 10]) -> u32
@@ -96,27 +96,39 @@ fn best_index(rows: &[i16; 2560], p: [f32; 10], prev: [f32; 10]) -> u32
 {
     let t = residual_target(p, prev);
     let w = lsp_weights(p);
-    let a = choose(rows, &t, &w, LspBand::Band0);
-    let b = choose(rows, &t, &w, LspBand::Band1);
-    let c = choose(rows, &t, &w, LspBand::Band2);
+    let bands = LspBand::in_order();
+    let a = choose(rows, &t, &w, bands[0]);
+    let b = choose(rows, &t, &w, bands[1]);
+    let c = choose(rows, &t, &w, bands[2]);
     index::combine_lsp_index([a, b, c])
+}
+
+// The first refusal due: 5 in either set; then 6 above 65,536 in magnitude in either.
+fn check_sets(p: [f32; 10], prev: [f32; 10]) -> u32
+    ensures { λ r. ⌜ r ≡ first (quantiseRefusals p prev) ⌝ }
+{
+    if !float::all_finite(&p) {
+        return 5;
+    }
+    if !float::all_finite(&prev) {
+        return 5;
+    }
+    if float::any_exceeds(&p, 65536.0) {
+        return 6;
+    }
+    if float::any_exceeds(&prev, 65536.0) {
+        return 6;
+    }
+    0
 }
 
 // The quantiser over rows that the caller lends.
 pub fn quantise_in(rows: &[i16; 2560], p: [f32; 10], prev: [f32; 10]) -> Quantised
     ensures { λ r. ⌜ r ≡ quantiseLspFreq (now (rows .entry)) p prev ⌝ }
 {
-    if !float::all_finite(&p) {
-        return refused(5);
-    }
-    if !float::all_finite(&prev) {
-        return refused(5);
-    }
-    if float::any_exceeds(&p, 65536.0) {
-        return refused(6);
-    }
-    if float::any_exceeds(&prev, 65536.0) {
-        return refused(6);
+    let status = check_sets(p, prev);
+    if status != 0 {
+        return refused(status);
     }
     let index = best_index(rows, p, prev);
     let set = decode::decode_set(rows, index, prev);

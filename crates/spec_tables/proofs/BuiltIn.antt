@@ -9,7 +9,7 @@ use lib.ListN.{length, getD}
 use Rattle.spec_tables.specs.declared.LspBand.the-variants.{Band0, Band1}
 use Rattle.spec_tables.specs.Codebook.{neg, lspBand0, lspBand1, lspBand2, lspRows}
 use Rattle.spec_tables.specs.Bounds.{allInside, rowsPass}
-use Rattle.spec_tables.specs.Rows.{row, rowAt}
+use Rattle.spec_tables.specs.Rows.{rowFrom, row}
 
 pub rows-length : length lspRows ≡ 2560
 unfolding lspRows lspBand0 lspBand1 lspBand2 flatten
@@ -24,9 +24,9 @@ unfolding allInside lspRows lspBand0 lspBand1 lspBand2 flatten
 rows-tight = tt
 
 pub least-number : getD (row lspRows Band1 7) 1 (pos 0) ≡ neg 4764
-unfolding row rowAt lspRows lspBand0 lspBand1 lspBand2 flatten
+unfolding rowFrom lspRows lspBand0 lspBand1 lspBand2 flatten
 least-number = refl
 
 pub greatest-number : getD (row lspRows Band0 255) 2 (pos 0) ≡ pos 6012
-unfolding row rowAt lspRows lspBand0 lspBand1 lspBand2 flatten
+unfolding rowFrom lspRows lspBand0 lspBand1 lspBand2 flatten
 greatest-number = refl

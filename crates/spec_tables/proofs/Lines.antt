@@ -1,11 +1,10 @@
 -- Row `index` of a band, as the definition cuts it out of the 2,560 numbers, is line `index` of that band's published table. The law is over any rows of one width.
 -- Assumes nothing.
-use mathlib.Core.Path.{_≡_, refl, sym, _∙_, ap}
+use mathlib.Core.Path.{_≡_, refl, _∙_}
 use mathlib.Core.Bool.{Bool, true, _&&_}
 use mathlib.Core.List.{List, [], _∷_, _++_, flatten, append-assoc, append-nil}
 use Prim.Native.Nat.{ℕ, zero, suc, _+_, _*_, _<_}
 use native.Mathlib.Nat.{add-comm, zero-mul, suc-mul, not-suc-le-zero, le-of-suc-le-suc}
-use native.Mathlib.Omega.{arith}
 use lib.Dec.{T, eqb, eqb→eq}
 use lib.IntN.{ℤ}
 use lib.ListN.{length, take, drop, getD}
@@ -14,14 +13,15 @@ use mir.Facts.{and-yes}
 use Rattle.spec_tables.specs.declared.LspBand.{LspBand}
 use Rattle.spec_tables.specs.declared.LspBand.the-variants.{Band0, Band1, Band2}
 use Rattle.spec_tables.specs.Codebook.{lspBand0, lspBand1, lspBand2, lspRows}
-use Rattle.spec_tables.specs.Rows.{rowAt, row}
+use Rattle.spec_tables.specs.Rows.{rowFrom, rowAt, row}
 
 -- each line has w numbers
 abbrev pub even : ℕ → List (List ℤ) → Bool
 even w [] = true
 even w (l ∷ ls) = eqb (length l) w && even w ls
 
-line-at : (w : ℕ) (ls : List (List ℤ)) (rest : List ℤ) → T (even w ls) → (i : ℕ) → i < length ls → take w (drop (i * w) (flatten ls ++ rest)) ≡ getD ls i []
+line-at : (w : ℕ) (ls : List (List ℤ)) (rest : List ℤ) → T (even w ls) → (i : ℕ) → i < length ls →
+    take w (drop (i * w) (flatten ls ++ rest)) ≡ getD ls i []
 unfolding flatten
 line-at w [] rest t i h = absurd (not-suc-le-zero h)
 line-at w (l ∷ ls) rest t zero h =
@@ -32,8 +32,9 @@ line-at w (l ∷ ls) rest t (suc i) h =
     rw (s, append-assoc l (flatten ls) rest, ← drop-drop (i * w) w (l ++ (flatten ls ++ rest)), drop-at l (flatten ls ++ rest) w e)
     (line-at w ls rest (and-yes (eqb (length l) w) (even w ls) t .1) i (le-of-suc-le-suc h))
 
-pub line : (before : List ℤ) (ls : List (List ℤ)) (rest : List ℤ) (first w : ℕ) → length before ≡ first → T (even w ls) → (i : ℕ) → i < length ls → rowAt (before ++ (flatten ls ++ rest)) first w i ≡ getD ls i []
-unfolding rowAt
+pub line : (before : List ℤ) (ls : List (List ℤ)) (rest : List ℤ) (first w : ℕ) → length before ≡ first →
+    T (even w ls) → (i : ℕ) → i < length ls → rowAt (before ++ (flatten ls ++ rest)) w first i ≡ getD ls i []
+unfolding rowFrom
 line before ls rest first w e t i h =
     rw (← drop-drop (i * w) first (before ++ (flatten ls ++ rest)), drop-at before (flatten ls ++ rest) first e) (line-at w ls rest t i h)
 
@@ -70,7 +71,7 @@ unfolding lspBand0 lspBand1 flatten
 before2 = refl
 
 pub row-is-line : (band : LspBand) (index : ℕ) → index < 256 → row lspRows band index ≡ getD (linesOf band) index []
-unfolding row lspRows
+unfolding lspRows
 row-is-line Band0 index h =
     rw (append-assoc (flatten lspBand0) (flatten lspBand1) (flatten lspBand2))
     (line [] lspBand0 (flatten lspBand1 ++ flatten lspBand2) 0 3 refl even0 index (rw (lines-many Band0) h))

@@ -1,5 +1,6 @@
--- The three bands of the line quantiser (§2.6; document 01: "Band starts and lengths are 0,3; 3,3; 6,4, each with 256 rows"): where a band's
+-- The three bands of the line quantiser (§2.6; document 01, B25: "Band starts and lengths are 0,3; 3,3; 6,4, each with 256 rows"): where a band's
 -- frequencies stand among the ten, how many there are, and where its rows begin among 2,560 numbers that hold the bands one after the other.
+-- `placeOf` is the Rust's LSP_BAND_INFO.
 -- Assumes nothing.
 use mathlib.Core.List.{List, [], _∷_}
 use Prim.Native.Nat.{ℕ, _*_}

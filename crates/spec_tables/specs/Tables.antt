@@ -1,12 +1,8 @@
--- The small tables of the Recommendation, by the Rust's names: LSP_BAND_INFO, LSP_DC_PREDICTED_FREQ_Q15 (§2.6), LPC_BINOMIAL_LAG_WINDOW_Q15 (§2.4),
--- PERCEPTUAL_ZERO_Q15 and PERCEPTUAL_POLE_Q15 (§2.9). No number is negative.
+-- The small tables of the Recommendation, by the Rust's names: LSP_DC_PREDICTED_FREQ_Q15 (§2.6), LPC_BINOMIAL_LAG_WINDOW_Q15 (§2.4),
+-- PERCEPTUAL_ZERO_Q15 and PERCEPTUAL_POLE_Q15 (§2.9). No number is negative. LSP_BAND_INFO is `placeOf` in Band.antt.
 -- Assumes nothing.
 use mathlib.Core.List.{List, [], _∷_, map}
 use lib.IntN.{ℤ, pos}
-
--- start and length of each band, band 0 first
-abbrev pub bandInfo : List ℤ
-bandInfo = map pos (0 ∷ 3 ∷ 3 ∷ 3 ∷ 6 ∷ 4 ∷ [])
 
 -- the resting set: ten frequencies, of which 32,768 make half a circle
 abbrev pub dcFreq : List ℤ

@@ -2,11 +2,11 @@
 // A table is read by binding it once, as `let t = lsp_rows();`, and lending `&t`: a const that is named in a loop is copied at each use.
 ghost use mathlib.Core.Path.{_≡_};
 ghost use Prim.Native.Nat.{_+_, _*_, _≤_};
-ghost use lib.ListN.{length, take, drop};
+ghost use lib.ListN.{length, take};
 ghost use Rattle.spec_tables.specs.Band.{placeOf, firstRow, allBands};
 ghost use Rattle.spec_tables.specs.Codebook.{lspRows};
-ghost use Rattle.spec_tables.specs.Rows.{row, padded};
-ghost use Rattle.spec_tables.specs.Tables.{bandInfo, dcFreq, lagWindow, perceptualZero, perceptualPole};
+ghost use Rattle.spec_tables.specs.Rows.{rowFrom, row, padded};
+ghost use Rattle.spec_tables.specs.Tables.{dcFreq, lagWindow, perceptualZero, perceptualPole};
 ghost use Rattle.spec_tables.specs.Window.{hammingWindow};
 
 pub mod codebook;
@@ -69,12 +69,6 @@ pub fn lpc_hamming_window() -> [i16; 180]
     ensures { λ r. ⌜ r ≡ hammingWindow ⌝ }
 {
     window::LPC_HAMMING_WINDOW_Q15
-}
-
-pub fn band_info() -> [i16; 6]
-    ensures { λ r. ⌜ r ≡ bandInfo ⌝ }
-{
-    LSP_BAND_INFO
 }
 
 pub fn lsp_dc_predicted_freq() -> [i16; 10]
@@ -143,33 +137,28 @@ impl LspBand {
         }
     }
 
-    // Where the band's rows begin among the 2,560 numbers.
+    // Where the band's rows begin among the 2,560 numbers: every band has 256 rows, as wide as the band.
     pub fn first_row(self) -> usize
         ensures { λ r. ⌜ r ≡ firstRow self ⌝ }
     {
-        match self {
-            LspBand::Band0 => 0,
-            LspBand::Band1 => 768,
-            LspBand::Band2 => 1536,
-        }
+        let place = self.start_and_length();
+        256 * place.start
     }
 
     // The place of row `index` among the 2,560 numbers.
     pub fn row_place(self, index: u8) -> usize
         ensures { λ r. ⌜ r ≡ firstRow self + index * placeOf self .length ⌝ }
     {
-        match self {
-            LspBand::Band0 => (index as usize) * 3,
-            LspBand::Band1 => 768 + (index as usize) * 3,
-            LspBand::Band2 => 1536 + (index as usize) * 4,
-        }
+        let first = self.first_row();
+        let place = self.start_and_length();
+        first + (index as usize) * place.length
     }
 }
 
 // The `width` numbers from place `at` on, zeros after them.
-fn row_at(rows: &[i16], at: usize, width: usize) -> [i16; 4]
+fn copied(rows: &[i16], at: usize, width: usize) -> [i16; 4]
     requires { ⌜ (at + width ≤ length (now rows)) × (width ≤ 4) ⌝ }
-    ensures { λ r. ⌜ r ≡ padded (take width (drop at (now (rows .entry)))) ⌝ }
+    ensures { λ r. ⌜ r ≡ padded (rowFrom (now (rows .entry)) width at) ⌝ }
 {
     let mut out = [0i16; 4];
     for j in 0..width {
@@ -178,20 +167,12 @@ fn row_at(rows: &[i16], at: usize, width: usize) -> [i16; 4]
     out
 }
 
-// Row `index` of a band, zeros after it, of rows that the caller lends.
-pub fn row_in(rows: &[i16; 2560], band: LspBand, index: u8) -> [i16; 4]
-    ensures { λ r. ⌜ r ≡ padded (row (now (rows .entry)) band index) ⌝ }
+// Row `index` of a band copied out, zeros after it, of rows that the caller lends: as many of the four as the band is wide are the row.
+pub fn lsp_codebook_entry(rows: &[i16; 2560], band: LspBand, index: u8) -> [i16; 4]
+    ensures four { λ r. ⌜ r ≡ padded (row (now (rows .entry)) band index) ⌝ }
+    ensures row { λ r. ⌜ take (placeOf band .length) r ≡ row (now (rows .entry)) band index ⌝ }
 {
     let place = band.start_and_length();
-    let width = place.length;
     let at = band.row_place(index);
-    row_at(rows, at, width)
-}
-
-// Row `index` of a band, zeros after it.
-pub fn lsp_codebook_entry(band: LspBand, index: u8) -> [i16; 4]
-    ensures { λ r. ⌜ r ≡ padded (row lspRows band index) ⌝ }
-{
-    let t = lsp_rows();
-    row_in(&t, band, index)
+    copied(rows, at, place.length)
 }

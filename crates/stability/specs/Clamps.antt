@@ -1,5 +1,5 @@
--- The outer clamps (§3.10), after the passes: the first angle is at least a margin, the last at most π less the margin, which is the greater of half the
--- spacing and 0.001. Document 01, B38. Assumes nothing.
+-- The outer clamps (§3.10), after the passes: the first angle is at least a margin, the last at most π less the
+-- margin, which is the greater of half the spacing and 0.001. Document 01, B38. Assumes nothing.
 use Prim.Native.Nat.{ℕ}
 use mathlib.Core.Bool.{cond}
 use mathlib.Core.List.{List}

@@ -1,4 +1,5 @@
--- The passes that spread lines apart (§2.6, §3.10): at most ten, each over the nine pairs of neighbours in turn, up to the first one that finds no pair too close.
+-- The passes that spread lines apart (§2.6, §3.10): at most ten, each over the nine pairs of neighbours in turn, up
+-- to the first one that finds no pair too close.
 -- Document 01, B37 and B39. `delta` is the spacing as an angle. Assumes nothing.
 use Prim.Native.Nat.{ℕ, suc}
 use mathlib.Core.Bool.{Bool, true, false, cond}

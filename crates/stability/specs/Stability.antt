@@ -1,7 +1,7 @@
 -- The stability procedure whole (§2.6, §3.10): cosines to angles, the passes, the clamps, and back to cosines.
 -- Document 01, B36 to B41. What `converged` tells is of the passes, before the clamps. Assumes nothing.
 use Prim.Native.Nat.{ℕ}
-use mathlib.Core.Bool.{false}
+use mathlib.Core.Bool.{Bool, false}
 use mathlib.Core.List.{List, [], _∷_, map}
 use lib.Ieee.{Float}
 use Rattle.float.specs.Finite.{notFinite}
@@ -36,8 +36,9 @@ done s = record { status = 0; cosines = map cosineOf (s .angles); converged = s 
 abbrev pub refusal : ℕ → Stabilised
 refusal n = record { status = n; cosines = zeros 10; converged = false }
 
+-- 5 for the spacing or any cosine; 6 for a spacing outside its bounds
+abbrev pub spacingRefusals : List Float → Float → List (ℕ × Bool)
+spacingRefusals c hz = (5, notFinite (hz ∷ c)) ∷ (6, outside hz) ∷ []
+
 unfoldable pub enforced : List Float → Float → Stabilised
-enforced c hz =
-    answer (first ((5, notFinite (hz ∷ c)) ∷ (6, outside hz) ∷ []))
-    refusal
-    (done (stable (spacing hz) (map angleOf c)))
+enforced c hz = answer (first (spacingRefusals c hz)) refusal (done (stable (spacing hz) (map angleOf c)))

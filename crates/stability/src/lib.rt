@@ -4,12 +4,12 @@ ghost use mathlib.Core.Bool.{true, false};
 ghost use mathlib.Core.List.{map};
 ghost use lib.Ieee.Scale.{finite};
 ghost use Rattle.float.specs.Finite.{power, anyExceeds};
-ghost use Rattle.float.specs.Refusal.{all};
+ghost use Rattle.float.specs.Refusal.{all, first};
 ghost use Rattle.quarter.specs.Quarter.{quarterTable};
 ghost use Rattle.stability.specs.Spacing.{spacing, outside};
 ghost use Rattle.stability.specs.Passes.{pass, settled};
 ghost use Rattle.stability.specs.Clamps.{margin, clamped};
-ghost use Rattle.stability.specs.Stability.{angleOf, cosineOf, stable, done, refusal, enforced};
+ghost use Rattle.stability.specs.Stability.{angleOf, cosineOf, stable, done, refusal, spacingRefusals, enforced};
 
 pub struct Stabilised {
     pub status: u32,
@@ -147,21 +147,32 @@ fn stabilise(cosines: [f32; 10], hz: f32) -> Stabilised
     }
 }
 
+// The first refusal due: 5 for the spacing or any cosine; 6 for a spacing outside 0..400 Hz.
+fn check_spacing(cosines: &[f32], hz: f32) -> u32
+    ensures { λ r. ⌜ r ≡ first (spacingRefusals (now (cosines .entry)) hz) ⌝ }
+{
+    if !float::is_finite(hz) {
+        return 5;
+    }
+    if !float::all_finite(cosines) {
+        return 5;
+    }
+    if hz < 0.0 {
+        return 6;
+    }
+    if 400.0 < hz {
+        return 6;
+    }
+    0
+}
+
 // Lines at least a spacing apart, where at most ten passes reach it; `converged` tells that a pass met no pair too close.
 pub fn enforce_lsp_stability(cosines: [f32; 10], spacing_hz: f32) -> Stabilised
     ensures { λ r. ⌜ r ≡ enforced cosines «spacing_hz» ⌝ }
 {
-    if !float::is_finite(spacing_hz) {
-        return refused(5);
-    }
-    if !float::all_finite(&cosines) {
-        return refused(5);
-    }
-    if spacing_hz < 0.0 {
-        return refused(6);
-    }
-    if 400.0 < spacing_hz {
-        return refused(6);
+    let status = check_spacing(&cosines, spacing_hz);
+    if status != 0 {
+        return refused(status);
     }
     stabilise(cosines, spacing_hz)
 }

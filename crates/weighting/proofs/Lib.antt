@@ -1,3 +1,3 @@
--- Laws of the filter's state, and of the delay lines that hold it.
-pub mod Line
+-- Laws of the filter's state, and of the delays that hold it.
+pub mod Delay
 pub mod Running

@@ -49,8 +49,9 @@ done s = record { status = 0; out = s .out; «x_mem» = s .inputs; «f_mem» = s
 abbrev pub refusal : List Float → List Float → ℕ → Weighted
 refusal xs fs n = record { status = n; out = zeros 60; «x_mem» = xs; «f_mem» = fs }
 
+-- 1 if there are not 60 samples; 5 for a float that is not finite, anywhere
+abbrev pub subframeRefusals : List Float → List Float → List Float → List Float → List Float → List (ℕ × Bool)
+subframeRefusals x wz wp xs fs = (1, not (eqb (length x) 60)) ∷ (5, any notFinite (x ∷ wz ∷ wp ∷ xs ∷ fs ∷ [])) ∷ []
+
 unfoldable pub weightSubframe : List Float → List Float → List Float → List Float → List Float → Weighted
-weightSubframe x wz wp xs fs =
-    answer (first ((1, not (eqb (length x) 60)) ∷ (5, any notFinite (x ∷ wz ∷ wp ∷ xs ∷ fs ∷ [])) ∷ []))
-    (refusal xs fs)
-    (done (filtered x wz wp xs fs 60))
+weightSubframe x wz wp xs fs = answer (first (subframeRefusals x wz wp xs fs)) (refusal xs fs) (done (filtered x wz wp xs fs 60))

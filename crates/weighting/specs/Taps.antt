@@ -20,8 +20,9 @@ factor entries k = ofInt binary32 (getD entries k (pos 0)) ⊘ single 32768 1
 unfoldable pub taps : List ℤ → List Float → List Float
 taps entries a = table 10 (λ k. at a (suc k) ⊗ factor entries k)
 
+abbrev pub refusedTaps : ℕ → WeightingTaps
+refusedTaps n = record { status = n; wz = zeros 10; wp = zeros 10 }
+
 unfoldable pub weightingTaps : List Float → WeightingTaps
 weightingTaps a =
-    answer (first ((5, notFinite a) ∷ []))
-    (λ n. record { status = n; wz = zeros 10; wp = zeros 10 })
-    (record { status = 0; wz = taps perceptualZero a; wp = taps perceptualPole a })
+    answer (first ((5, notFinite a) ∷ [])) refusedTaps (record { status = 0; wz = taps perceptualZero a; wp = taps perceptualPole a })

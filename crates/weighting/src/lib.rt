@@ -1,11 +1,15 @@
 // The formant perceptual weighting filter (§2.8): its taps, and one subframe through it.
 ghost use mathlib.Core.Path.{_≡_};
+ghost use mathlib.Core.Bool.{not};
+ghost use mathlib.Core.List.{[], _∷_};
 ghost use Prim.Native.Nat.{_<_};
 ghost use lib.ListN.{length};
+ghost use Rattle.float.specs.Finite.{notFinite};
+ghost use Rattle.float.specs.Refusal.{any, first};
 ghost use Rattle.float.specs.Single.{_⊕_, _⊖_, _⊗_};
-ghost use Rattle.weighting.specs.Taps.{taps, weightingTaps};
-ghost use Rattle.weighting.specs.Filter.{weighted, filtered, done, refusal, weightSubframe};
-ghost use Rattle.weighting.specs.Line.{behind, Line};
+ghost use Rattle.weighting.specs.Taps.{taps, refusedTaps, weightingTaps};
+ghost use Rattle.weighting.specs.Filter.{weighted, filtered, done, refusal, subframeRefusals, weightSubframe};
+ghost use Rattle.weighting.specs.inner.Delay.{behind, Delay};
 
 pub struct WeightingTaps {
     pub status: u32,
@@ -31,16 +35,23 @@ fn scaled(a: [f32; 11], entries: [i16; 10]) -> [f32; 10]
     out
 }
 
+fn refused_taps(status: u32) -> WeightingTaps
+    ensures { λ r. ⌜ r ≡ refusedTaps status ⌝ }
+{
+    WeightingTaps {
+        status,
+        wz: [0.0f32; 10],
+        wp: [0.0f32; 10],
+    }
+}
+
 // The filter's taps from a predictor's coefficients: those of its zeros, and those of its poles.
 pub fn weighting_taps(a: [f32; 11]) -> WeightingTaps
     ensures { λ r. ⌜ r ≡ weightingTaps a ⌝ }
 {
-    if !float::all_finite(&a) {
-        return WeightingTaps {
-            status: 5,
-            wz: [0.0f32; 10],
-            wp: [0.0f32; 10],
-        };
+    let status = float::check_finite(&a);
+    if status != 0 {
+        return refused_taps(status);
     }
     let zeros = spec_tables::perceptual_zero();
     let poles = spec_tables::perceptual_pole();
@@ -56,36 +67,36 @@ pub fn add_tap(f: f32, z: f32, x: f32, p: f32, past: f32) -> f32
     f + (z * x - p * past)
 }
 
-// A delay line that starts with a memory, oldest first.
-fn start_line(memory: [f32; 10]) -> [f32; 70]
+// A delay that starts with a memory, oldest first.
+fn start_delay(memory: [f32; 10]) -> [f32; 70]
     ensures { λ r. ⌜ behind 0 r ≡ memory ⌝ }
 {
-    let mut line = [0.0f32; 70];
+    let mut delay = [0.0f32; 70];
     for k in 0..10 {
-        line[k] = memory[9 - k];
+        delay[k] = memory[9 - k];
     }
-    line
+    delay
 }
 
-// A delay line: a memory, and the sixty samples after it.
-pub fn delay_line(memory: [f32; 10], x: &[f32]) -> [f32; 70]
+// A delay: a memory, and the sixty samples after it.
+pub fn delayed(memory: [f32; 10], x: &[f32]) -> [f32; 70]
     requires { ⌜ length (now x) ≡ 60 ⌝ }
-    ensures { λ r. ⌜ Line memory (now (x .entry)) r ⌝ }
+    ensures { λ r. ⌜ Delay memory (now (x .entry)) r ⌝ }
 {
-    let mut line = start_line(memory);
+    let mut delay = start_delay(memory);
     for i in 0..60 {
-        line[i + 10] = x[i];
+        delay[i + 10] = x[i];
     }
-    line
+    delay
 }
 
-// The last ten values of a delay line, most recent first.
-pub fn last_ten(line: &[f32; 70]) -> [f32; 10]
-    ensures { λ r. ⌜ r ≡ behind 60 (now (line .entry)) ⌝ }
+// The last ten values of a delay, most recent first.
+pub fn last_ten(delay: &[f32; 70]) -> [f32; 10]
+    ensures { λ r. ⌜ r ≡ behind 60 (now (delay .entry)) ⌝ }
 {
     let mut memory = [0.0f32; 10];
     for k in 0..10 {
-        memory[k] = line[69 - k];
+        memory[k] = delay[69 - k];
     }
     memory
 }
@@ -121,7 +132,7 @@ fn sixty(x: &[f32]) -> [f32; 60]
     out
 }
 
-// Sixty samples, each replaced by its output, which joins the line of outputs too.
+// Sixty samples, each replaced by its output, which joins the delay of outputs too.
 fn weight_all(
     x: &[f32],
     wz: [f32; 10],
@@ -132,8 +143,8 @@ fn weight_all(
     requires { ⌜ length (now x) ≡ 60 ⌝ }
     ensures { λ r. ⌜ r ≡ done (filtered (now (x .entry)) wz wp «x_mem» «f_mem» 60) ⌝ }
 {
-    let xs = delay_line(x_mem, x);
-    let mut fs = start_line(f_mem);
+    let xs = delayed(x_mem, x);
+    let mut fs = start_delay(f_mem);
     let mut out = sixty(x);
     for n in 0..60 {
         let v = out[n];
@@ -162,8 +173,37 @@ fn refused(status: u32, x_mem: [f32; 10], f_mem: [f32; 10]) -> Weighted
     }
 }
 
-// One subframe through the filter. Both memories come back; on a refusal they are as given. The floats are tested after the filter has run and before
-// anything is answered: the processor then tests them while the filter's last sums, each of which waits for the one before it, come in.
+fn given_finite(x: &[f32], wz: [f32; 10], wp: [f32; 10], x_mem: [f32; 10], f_mem: [f32; 10]) -> bool
+    ensures { λ r. ⌜ r ≡ not (any notFinite (now (x .entry) ∷ wz ∷ wp ∷ «x_mem» ∷ «f_mem» ∷ [])) ⌝ }
+{
+    let signal = float::all_finite(x);
+    let zeros = float::all_finite(&wz);
+    let poles = float::all_finite(&wp);
+    let inputs = float::all_finite(&x_mem);
+    let outputs = float::all_finite(&f_mem);
+    signal & (zeros & (poles & (inputs & outputs)))
+}
+
+// The first refusal due: 1 if not 60 samples; 5 for any float.
+fn check_subframe(
+    x: &[f32],
+    wz: [f32; 10],
+    wp: [f32; 10],
+    x_mem: [f32; 10],
+    f_mem: [f32; 10],
+) -> u32
+    ensures { λ r. ⌜ r ≡ first (subframeRefusals (now (x .entry)) wz wp «x_mem» «f_mem») ⌝ }
+{
+    if x.len() != 60 {
+        return 1;
+    }
+    if !given_finite(x, wz, wp, x_mem, f_mem) {
+        return 5;
+    }
+    0
+}
+
+// One subframe through the filter. Both memories come back; on a refusal they are as given.
 pub fn weight_subframe(
     x: &[f32],
     wz: [f32; 10],
@@ -173,16 +213,9 @@ pub fn weight_subframe(
 ) -> Weighted
     ensures { λ r. ⌜ r ≡ weightSubframe (now (x .entry)) wz wp «x_mem» «f_mem» ⌝ }
 {
-    if x.len() != 60 {
-        return refused(1, x_mem, f_mem);
+    let status = check_subframe(x, wz, wp, x_mem, f_mem);
+    if status != 0 {
+        return refused(status, x_mem, f_mem);
     }
-    let weighted = weight_all(x, wz, wp, x_mem, f_mem);
-    let signal = float::all_finite(x);
-    let taps = float::all_finite(&wz) & float::all_finite(&wp);
-    let memories = float::all_finite(&x_mem) & float::all_finite(&f_mem);
-    let finite = signal & taps & memories;
-    if !finite {
-        return refused(5, x_mem, f_mem);
-    }
-    weighted
+    weight_all(x, wz, wp, x_mem, f_mem)
 }

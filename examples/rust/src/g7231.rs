@@ -1,38 +1,30 @@
-//! The doors of libg7231.a as safe functions. A host may copy this file.
+//! The doors of libg7231.a as safe functions. A host may copy this file; the bindings that it stands on are installed
+//! with the library (share/g7231/g7231.rs).
 //!
 //! Lengths are in the types or checked by the doors, and a `&mut` is apart from every other reference, so no call here
-//! can break what the header asks. The guarded forms are called: a safe function cannot know the thread's
-//! floating-point mode.
+//! can break what the header asks. The safe forms are called: a function cannot know the thread's floating-point mode.
 
+use std::ffi::CStr;
 use std::fmt;
 
-type Lines = [f32; 10];
-type Filter = [f32; 11];
-type Subframe = [f32; 60];
-
-/// Why a call was refused, by the header's numbers. What was lent is as it was.
-#[derive(Clone, Copy, Debug, PartialEq, Eq)]
-pub enum Refusal {
-    Length = 1,
-    Choice = 2,
-    Place = 3,
-    Lag = 4,
-    NotFinite = 5,
-    Magnitude = 6,
-    NoLineSet = 7,
+pub mod doors {
+    include!(env!("G7231_BINDINGS"));
 }
+
+use doors::*;
+
+type Lines = [f32; G7231_ORDER];
+type Filter = [f32; G7231_FILTER];
+type Subframe = [f32; G7231_SUBFRAME];
+
+/// Why a call was refused: the header's number. What was lent is as it was.
+#[derive(Clone, Copy, Debug, PartialEq, Eq)]
+pub struct Refusal(pub u32);
 
 impl fmt::Display for Refusal {
     fn fmt(&self, f: &mut fmt::Formatter) -> fmt::Result {
-        f.write_str(match self {
-            Refusal::Length => "a list of another length than asked for",
-            Refusal::Choice => "no such choice",
-            Refusal::Place => "a place with too few samples around it",
-            Refusal::Lag => "a lag out of range",
-            Refusal::NotFinite => "an infinity or a NaN",
-            Refusal::Magnitude => "a number too large",
-            Refusal::NoLineSet => "the filter has no set of ten line frequencies",
-        })
+        let words = unsafe { CStr::from_ptr(g7231_refusal(self.0)) };
+        f.write_str(&words.to_string_lossy())
     }
 }
 
@@ -40,43 +32,17 @@ impl std::error::Error for Refusal {}
 
 /// The answer where the status is 0, else the refusal.
 fn answer<T>(status: u32, made: T) -> Result<T, Refusal> {
-    Err(match status {
-        0 => return Ok(made),
-        1 => Refusal::Length,
-        2 => Refusal::Choice,
-        3 => Refusal::Place,
-        4 => Refusal::Lag,
-        5 => Refusal::NotFinite,
-        6 => Refusal::Magnitude,
-        7 => Refusal::NoLineSet,
-        other => unreachable!("a door answered {other}, which include/g7231.h does not have"),
-    })
-}
-
-#[rustfmt::skip]
-extern "C" {
-    fn g7231_guarded_lpc_analysis(window: *const f32, len: usize, a: &mut Filter, r: &mut [f64; 11], k2: &mut f32) -> u32;
-    fn g7231_guarded_lpc_to_lsp(a: &Filter, lsp: &mut Lines) -> u32;
-    fn g7231_guarded_lsp_cosines_to_freq(cosines: &Lines, freq: &mut Lines) -> u32;
-    fn g7231_guarded_lsp_freq_to_cosines(freq: &Lines, cosines: &mut Lines) -> u32;
-    fn g7231_guarded_quantise_lsp_freq(p: &Lines, prev: &Lines, index: &mut u32, set: &mut Lines) -> u32;
-    fn g7231_guarded_decode_lsp_freq(index: u32, prev: &Lines, set: &mut Lines) -> u32;
-    fn g7231_guarded_enforce_lsp_stability(cosines: &Lines, spacing_hz: f32, out: &mut Lines, converged: &mut u32) -> u32;
-    fn g7231_guarded_interpolate_lsp(choice: usize, prev: &Lines, cur: &Lines, out: &mut Lines) -> u32;
-    fn g7231_guarded_lsp_to_lpc(lsp: &Lines, a: &mut Filter) -> u32;
-    fn g7231_guarded_weighting_taps(a: &Filter, wz: &mut Lines, wp: &mut Lines) -> u32;
-    fn g7231_guarded_weight_subframe(x: *const f32, len: usize, wz: &Lines, wp: &Lines, x_mem: &mut Lines, f_mem: &mut Lines, out: &mut Subframe) -> u32;
-    fn g7231_guarded_open_loop_pitch(wbuf: *const f32, len: usize, half: usize, lag: &mut u32) -> u32;
-    fn g7231_guarded_harmonic_noise_shaping(wbuf: *const f32, len: usize, place: usize, l_ol: u32, lag: &mut u32, beta: &mut f32) -> u32;
-    fn g7231_guarded_run_combined(syn: &mut Lines, wz_mem: &mut Lines, wp_mem: &mut Lines, p_hist: &mut [f32; 145], input: &Subframe, aq: &Filter, wz: &Lines, wp: &Lines, lag: u32, beta: f32, out: &mut Subframe) -> u32;
-    fn g7231_guarded_combined_impulse_response(aq: &Filter, wz: &Lines, wp: &Lines, lag: u32, beta: f32, out: &mut Subframe) -> u32;
+    match status {
+        G7231_DONE => Ok(made),
+        other => Err(Refusal(other)),
+    }
 }
 
 /// Linear prediction of a window: coefficients, sums of the autocorrelation, second reflection.
 #[derive(Clone, Copy, Default)]
 pub struct LpcSet {
     pub a: Filter,
-    pub r: [f64; 11],
+    pub r: [f64; G7231_FILTER],
     pub k2: f32,
 }
 
@@ -84,63 +50,70 @@ pub struct LpcSet {
 pub fn lpc_analysis(window: &[f32]) -> Result<LpcSet, Refusal> {
     let mut set = LpcSet::default();
     let LpcSet { a, r, k2 } = &mut set;
-    let status = unsafe { g7231_guarded_lpc_analysis(window.as_ptr(), window.len(), a, r, k2) };
+    let status = unsafe { g7231_lpc_analysis(window.as_ptr(), window.len(), a, r, k2) };
     answer(status, set)
 }
 
 /// The line spectral pairs of a filter, as ten cosines that fall.
 pub fn lpc_to_lsp(a: &Filter) -> Result<Lines, Refusal> {
-    let mut lsp = [0.0; 10];
-    let status = unsafe { g7231_guarded_lpc_to_lsp(a, &mut lsp) };
+    let mut lsp = [0.0; G7231_ORDER];
+    let status = unsafe { g7231_lpc_to_lsp(a, &mut lsp) };
     answer(status, lsp)
 }
 
 /// Line cosines to frequencies.
 pub fn lsp_cosines_to_freq(cosines: &Lines) -> Result<Lines, Refusal> {
-    let mut freq = [0.0; 10];
-    let status = unsafe { g7231_guarded_lsp_cosines_to_freq(cosines, &mut freq) };
+    let mut freq = [0.0; G7231_ORDER];
+    let status = unsafe { g7231_lsp_cosines_to_freq(cosines, &mut freq) };
     answer(status, freq)
 }
 
 /// Line frequencies to cosines.
 pub fn lsp_freq_to_cosines(freq: &Lines) -> Result<Lines, Refusal> {
-    let mut cosines = [0.0; 10];
-    let status = unsafe { g7231_guarded_lsp_freq_to_cosines(freq, &mut cosines) };
+    let mut cosines = [0.0; G7231_ORDER];
+    let status = unsafe { g7231_lsp_freq_to_cosines(freq, &mut cosines) };
     answer(status, cosines)
+}
+
+/// The line frequencies that both ends of a line start from.
+pub fn resting_set() -> Lines {
+    let mut set = [0.0; G7231_ORDER];
+    unsafe { g7231_resting_set(&mut set) };
+    set
 }
 
 /// The 24-bit index of a set after the previous one, and the set that the decoder makes of it.
 pub fn quantise_lsp_freq(p: &Lines, prev: &Lines) -> Result<(u32, Lines), Refusal> {
-    let (mut index, mut set) = (0, [0.0; 10]);
-    let status = unsafe { g7231_guarded_quantise_lsp_freq(p, prev, &mut index, &mut set) };
+    let (mut index, mut set) = (0, [0.0; G7231_ORDER]);
+    let status = unsafe { g7231_quantise_lsp_freq(p, prev, &mut index, &mut set) };
     answer(status, (index, set))
 }
 
 /// The set of an index after the previous one.
 pub fn decode_lsp_freq(index: u32, prev: &Lines) -> Result<Lines, Refusal> {
-    let mut set = [0.0; 10];
-    let status = unsafe { g7231_guarded_decode_lsp_freq(index, prev, &mut set) };
+    let mut set = [0.0; G7231_ORDER];
+    let status = unsafe { g7231_decode_lsp_freq(index, prev, &mut set) };
     answer(status, set)
 }
 
 /// Lines at least a spacing apart, and whether a pass met no pair too close.
 pub fn enforce_lsp_stability(cosines: &Lines, spacing_hz: f32) -> Result<(Lines, bool), Refusal> {
-    let (mut out, mut converged) = ([0.0; 10], 0);
-    let status = unsafe { g7231_guarded_enforce_lsp_stability(cosines, spacing_hz, &mut out, &mut converged) };
+    let (mut out, mut converged) = ([0.0; G7231_ORDER], 0);
+    let status = unsafe { g7231_enforce_lsp_stability(cosines, spacing_hz, &mut out, &mut converged) };
     answer(status, (out, converged != 0))
 }
 
 /// The lines of a subframe between the last frame's and this one's.
 pub fn interpolate_lsp(choice: usize, prev: &Lines, cur: &Lines) -> Result<Lines, Refusal> {
-    let mut out = [0.0; 10];
-    let status = unsafe { g7231_guarded_interpolate_lsp(choice, prev, cur, &mut out) };
+    let mut out = [0.0; G7231_ORDER];
+    let status = unsafe { g7231_interpolate_lsp(choice, prev, cur, &mut out) };
     answer(status, out)
 }
 
 /// The filter of a line set.
 pub fn lsp_to_lpc(lsp: &Lines) -> Result<Filter, Refusal> {
-    let mut a = [0.0; 11];
-    let status = unsafe { g7231_guarded_lsp_to_lpc(lsp, &mut a) };
+    let mut a = [0.0; G7231_FILTER];
+    let status = unsafe { g7231_lsp_to_lpc(lsp, &mut a) };
     answer(status, a)
 }
 
@@ -154,7 +127,7 @@ pub struct Taps {
 /// The taps of the weighting filter.
 pub fn weighting_taps(a: &Filter) -> Result<Taps, Refusal> {
     let mut taps = Taps::default();
-    let status = unsafe { g7231_guarded_weighting_taps(a, &mut taps.wz, &mut taps.wp) };
+    let status = unsafe { g7231_weighting_taps(a, &mut taps.wz, &mut taps.wp) };
     answer(status, taps)
 }
 
@@ -167,17 +140,16 @@ pub struct WeightingMem {
 
 /// 60 samples through the weighting filter.
 pub fn weight_subframe(x: &[f32], taps: &Taps, mem: &mut WeightingMem) -> Result<Subframe, Refusal> {
-    let mut out = [0.0; 60];
+    let mut out = [0.0; G7231_SUBFRAME];
     let WeightingMem { x: x_mem, f: f_mem } = mem;
-    let status =
-        unsafe { g7231_guarded_weight_subframe(x.as_ptr(), x.len(), &taps.wz, &taps.wp, x_mem, f_mem, &mut out) };
+    let status = unsafe { g7231_weight_subframe(x.as_ptr(), x.len(), &taps.wz, &taps.wp, x_mem, f_mem, &mut out) };
     answer(status, out)
 }
 
 /// The pitch lag of one half of a frame that starts at place 145 of the weighted speech.
 pub fn open_loop_pitch(wbuf: &[f32], half: usize) -> Result<u32, Refusal> {
     let mut lag = 0;
-    let status = unsafe { g7231_guarded_open_loop_pitch(wbuf.as_ptr(), wbuf.len(), half, &mut lag) };
+    let status = unsafe { g7231_open_loop_pitch(wbuf.as_ptr(), wbuf.len(), half, &mut lag) };
     answer(status, lag)
 }
 
@@ -192,7 +164,7 @@ pub struct Shaping {
 pub fn harmonic_noise_shaping(wbuf: &[f32], place: usize, l_ol: u32) -> Result<Shaping, Refusal> {
     let mut shaping = Shaping::default();
     let Shaping { lag, beta } = &mut shaping;
-    let status = unsafe { g7231_guarded_harmonic_noise_shaping(wbuf.as_ptr(), wbuf.len(), place, l_ol, lag, beta) };
+    let status = unsafe { g7231_harmonic_noise_shaping(wbuf.as_ptr(), wbuf.len(), place, l_ol, lag, beta) };
     answer(status, shaping)
 }
 
@@ -202,12 +174,17 @@ pub struct CombinedMem {
     pub syn: Lines,
     pub wz: Lines,
     pub wp: Lines,
-    pub p_hist: [f32; 145],
+    pub p_hist: [f32; G7231_PAST],
 }
 
 impl CombinedMem {
     pub fn new() -> CombinedMem {
-        CombinedMem { syn: [0.0; 10], wz: [0.0; 10], wp: [0.0; 10], p_hist: [0.0; 145] }
+        CombinedMem {
+            syn: [0.0; G7231_ORDER],
+            wz: [0.0; G7231_ORDER],
+            wp: [0.0; G7231_ORDER],
+            p_hist: [0.0; G7231_PAST],
+        }
     }
 }
 
@@ -219,18 +196,17 @@ pub fn run_combined(
     taps: &Taps,
     shaping: Shaping,
 ) -> Result<Subframe, Refusal> {
-    let mut out = [0.0; 60];
+    let mut out = [0.0; G7231_SUBFRAME];
     let CombinedMem { syn, wz, wp, p_hist } = mem;
     let Shaping { lag, beta } = shaping;
-    let status =
-        unsafe { g7231_guarded_run_combined(syn, wz, wp, p_hist, input, aq, &taps.wz, &taps.wp, lag, beta, &mut out) };
+    let status = unsafe { g7231_run_combined(syn, wz, wp, p_hist, input, aq, &taps.wz, &taps.wp, lag, beta, &mut out) };
     answer(status, out)
 }
 
 /// The same filter's response to the unit impulse, from rest.
 pub fn combined_impulse_response(aq: &Filter, taps: &Taps, shaping: Shaping) -> Result<Subframe, Refusal> {
-    let mut out = [0.0; 60];
+    let mut out = [0.0; G7231_SUBFRAME];
     let Shaping { lag, beta } = shaping;
-    let status = unsafe { g7231_guarded_combined_impulse_response(aq, &taps.wz, &taps.wp, lag, beta, &mut out) };
+    let status = unsafe { g7231_combined_impulse_response(aq, &taps.wz, &taps.wp, lag, beta, &mut out) };
     answer(status, out)
 }

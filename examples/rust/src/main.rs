@@ -1,46 +1,17 @@
 //! Codes a call through the doors and decodes it at the other end, as examples/c/call.c does; prints the same lines.
 
 mod g7231;
+mod hash;
 
 use std::process::exit;
 
+use g7231::doors::{
+    G7231_FRAME as FRAME, G7231_NO_LINE_SET, G7231_PAST as PAST, G7231_SUBFRAME as SUBFRAME, G7231_WINDOW as WINDOW,
+};
 use g7231::{CombinedMem, Refusal, Taps, WeightingMem};
+use hash::Hash;
 
-const FRAME: usize = 240;
-const SUBFRAME: usize = 60;
-const WINDOW: usize = 180;
-const PAST: usize = 145;
 const WEIGHTED: usize = PAST + FRAME;
-
-/// What the line frequencies rest at: both ends begin with it.
-const RESTING: [f32; 10] = [3131.0, 4721.0, 7690.0, 10806.0, 13872.0, 16495.0, 19752.0, 22260.0, 25484.0, 27718.0];
-
-/// A hash of what was answered (FNV-1a, 64 bits, low byte first).
-struct Hash(u64);
-
-impl Hash {
-    fn new() -> Hash {
-        Hash(14695981039346656037)
-    }
-
-    fn bytes(&mut self, bytes: &[u8]) {
-        for byte in bytes {
-            self.0 = (self.0 ^ *byte as u64).wrapping_mul(1099511628211);
-        }
-    }
-
-    fn number(&mut self, number: u32) {
-        self.bytes(&number.to_le_bytes());
-    }
-
-    fn singles(&mut self, list: &[f32]) {
-        list.iter().for_each(|x| self.bytes(&x.to_le_bytes()));
-    }
-
-    fn doubles(&mut self, list: &[f64]) {
-        list.iter().for_each(|x| self.bytes(&x.to_le_bytes()));
-    }
-}
 
 /// From a set of line frequencies to the lines of the frame: held apart, or else the last frame's.
 fn settle(set: &[f32; 10], lines: &mut [f32; 10], answers: &mut Hash) -> Result<(), Refusal> {
@@ -95,7 +66,7 @@ impl Coder {
                 self.found = lines;
                 0
             }
-            Err(Refusal::NoLineSet) => Refusal::NoLineSet as u32,
+            Err(Refusal(G7231_NO_LINE_SET)) => G7231_NO_LINE_SET,
             Err(other) => return Err(other),
         };
         answers.number(status);
@@ -164,18 +135,19 @@ fn read_call(name: &str) -> Result<Vec<f32>, String> {
 }
 
 fn run(name: &str) -> Result<(), String> {
-    let refused = |why: Refusal| format!("a door refused with {}: {why}", why as u32);
+    let refused = |why: Refusal| format!("a door refused with {}: {why}", why.0);
     let speech = read_call(name)?;
-    let lines = g7231::lsp_freq_to_cosines(&RESTING).map_err(refused)?;
+    let resting = g7231::resting_set();
+    let lines = g7231::lsp_freq_to_cosines(&resting).map_err(refused)?;
     let mut coder = Coder {
-        set: RESTING,
+        set: resting,
         found: lines,
         lines,
         weighting: WeightingMem::default(),
         weighted: [0.0; WEIGHTED],
         combined: CombinedMem::new(),
     };
-    let mut decoder = Decoder { set: RESTING, lines };
+    let mut decoder = Decoder { set: resting, lines };
     let (mut coded, mut answers) = (Hash::new(), Hash::new());
     for (frame, start) in (0..speech.len() - 2 * SUBFRAME).step_by(FRAME).enumerate() {
         let around = &speech[start..start + FRAME + 2 * SUBFRAME];

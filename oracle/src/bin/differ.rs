@@ -1,10 +1,8 @@
 //! Compares the library with the Rust, operation by operation.
 
 use oracle::args::Args;
-use oracle::found::{LIBRARY, LIBRARY_PATH};
 use oracle::given::{self, hex, short};
-use oracle::inputs;
-use oracle::operations::{Kind, Operation, OPERATIONS};
+use oracle::operations::{named, others, Operation, OPERATIONS};
 use oracle::progress::Progress;
 use oracle::random::Random;
 use oracle::runner::{run, Plan, Tally};
@@ -17,7 +15,7 @@ use std::process::exit;
 use std::time::{Duration, Instant};
 
 const HELP: &str = "\
-differ: call every door of include/g7231.h and compare its answer with the Rust's
+differ: call the door of every function that the Rust has and compare its answer with the Rust's
 
   --seed S       the seed of the inputs (1)
   --count N      calls for each function (20000)
@@ -28,6 +26,7 @@ differ: call every door of include/g7231.h and compare its answer with the Rust'
   --turn T       one call alone: the turn that a difference names
   --replay LINE  one input alone: a function's name and the words of its input, as a difference prints them;
                  @FILE takes such lines from a file (empty lines and lines that open with # are passed over)
+  --list         print the names of the functions, one a line
   --progress     show progress on standard error even where that is no terminal
   --plant        a check of differ itself: before it is compared, the last word of each answer that is no refusal is
                  altered by one bit where two words of the input are below zero, read as singles
@@ -42,8 +41,10 @@ An input is fixed by seed, function and turn. The outcome of a seed and a count 
 The run stops at the first difference, the one of the lowest turn, and prints it; then the plainest input found that
 still shows it, and the line that replays it.
 
-Variables, when oracle/ is built: G7231_RUST, the folder with src/encoder.rs; G7231_LIBRARY, the archive.
-Exit status: 0 no difference; 1 a difference, or a bound broken; 2 bad usage, or no library to call.
+Doors of the header that the Rust has no function for are named and not compared.
+
+Variables, when oracle/ is built: G7231_RUST, the folder with src/encoder.rs; G7231_FOLDER, what ./install wrote.
+Exit status: 0 no difference, or no Rust to compare with; 1 a difference, or a bound broken; 2 bad usage.
 ";
 
 thread_local! {
@@ -63,26 +64,27 @@ fn main() {
     let replay: Option<String> = args.value("--replay");
     let progress = args.flag("--progress");
     let plant = args.flag("--plant");
+    let list = args.flag("--list");
     let chosen = match &only {
         Some(names) => names.split(',').map(named).collect::<Result<Vec<_>, _>>().unwrap_or_else(|why| args.fail(&why)),
-        None => OPERATIONS.iter().filter(|operation| operation.landed()).collect(),
+        None => OPERATIONS.iter().collect(),
     };
     if count == 0 || threads == 0 || threads > 1024 || turn == Some(u64::MAX) {
         args.fail("a count is at least 1, threads are 1 to 1024, and turns end before the last machine word");
     }
     let lines = replay.map(|text| lines(&text).unwrap_or_else(|why| args.fail(&why)));
     args.end();
-    let judge = match oracle::rust() {
+    if list {
+        chosen.iter().for_each(|operation| println!("{}", operation.name));
+        return;
+    }
+    let judge = match oracle::both::rust() {
         Ok(rust) => Judge { rust, plant },
         Err(why) => {
             println!("not compared: {why}");
             return;
         }
     };
-    if !LIBRARY {
-        eprintln!("there is no library at {LIBRARY_PATH}: make it with `rt staticlib c_api`, then build oracle/ again");
-        exit(2);
-    }
     if let Some(lines) = lines {
         let good = lines.iter().filter(|(operation, given)| replayed(&judge, operation, given)).count();
         println!("replayed: {good} of {} without a difference", lines.len());
@@ -107,6 +109,9 @@ fn main() {
             Outcome::Agrees => {}
         }
     }
+    if !others().is_empty() {
+        println!("not compared, since the Rust has no such function: {}", others().join(", "));
+    }
     println!("compared: {} of {}", chosen.len(), OPERATIONS.len());
     exit(if good { 0 } else { 1 });
 }
@@ -128,31 +133,17 @@ fn time(args: &mut Args) -> Option<Duration> {
 
 /// The inputs to replay: one line, or those of a file.
 fn lines(text: &str) -> Result<Vec<(&'static Operation, Vec<u32>)>, String> {
-    let Some(path) = text.strip_prefix('@') else { return Ok(vec![input(text)?]) };
+    let Some(path) = text.strip_prefix('@') else { return Ok(vec![given::parse(text)?]) };
     let whole = std::fs::read_to_string(path).map_err(|why| format!("{path}: {why}"))?;
     let own = |(_, line): &(usize, &str)| !line.trim().is_empty() && !line.starts_with('#');
     let numbered = whole.lines().enumerate().filter(own);
     let all: Vec<_> = numbered
-        .map(|(i, line)| input(line).map_err(|why| format!("{path}, line {}: {why}", i + 1)))
+        .map(|(i, line)| given::parse(line).map_err(|why| format!("{path}, line {}: {why}", i + 1)))
         .collect::<Result<_, _>>()?;
     if all.is_empty() {
         return Err(format!("{path}: no line"));
     }
     Ok(all)
-}
-
-fn input(line: &str) -> Result<(&'static Operation, Vec<u32>), String> {
-    let (operation, given) = given::parse(line)?;
-    Ok((named(operation.name)?, given))
-}
-
-/// The function of a name, where it has a door.
-fn named(name: &str) -> Result<&'static Operation, String> {
-    match OPERATIONS.iter().find(|operation| operation.name == name) {
-        None => Err(format!("there is no function {name}")),
-        Some(operation) if !operation.landed() => Err(format!("{name} is not in include/g7231.h")),
-        Some(operation) => Ok(operation),
-    }
 }
 
 /// Runs one input and prints it with both answers.
@@ -192,7 +183,7 @@ impl Run {
     /// The input of a turn, and the numbers that follow it.
     fn draw(&self, operation: &Operation, turn: u64) -> (Vec<u32>, Random) {
         let mut random = Random::new(self.seed, operation.number, turn);
-        let given = inputs::draw(operation, &mut random, turn);
+        let given = operation.source.draw(&mut random, turn);
         (given, random)
     }
 
@@ -298,10 +289,8 @@ fn line(operation: &Operation, seed: u64, tally: &Tally, began: Instant) -> (Str
 
 /// Prints an input, what the door gave and what was wanted, field by field, as bits; of a refusal the status alone.
 fn show(operation: &Operation, given: &[u32], trial: &Trial) {
-    for field in operation.takes {
-        let words = operation.part(given, field.name).unwrap_or(&[]);
-        let length =
-            if matches!(field.kind, Kind::Samples) { format!(" ({} samples)", words.len()) } else { String::new() };
+    for (field, words) in operation.takes().iter().zip(operation.parts(given)) {
+        let length = if field.is_list() { format!(" ({} samples)", words.len()) } else { String::new() };
         println!("  given  {}{length}: {}", field.name, short(words));
     }
     let answers = [("gave  ", trial.status, &trial.gave), ("wanted", trial.wanted_status, &trial.wanted)];
@@ -311,7 +300,7 @@ fn show(operation: &Operation, given: &[u32], trial: &Trial) {
             continue;
         }
         let mut reader = Reader::new(words);
-        for field in operation.gives {
+        for field in &operation.gives {
             println!("  {what} {}: {}", field.name, short(reader.words(field.kind.words())));
         }
     }

@@ -1,6 +1,6 @@
 //! Shows that the quarter table has the whole numbers nearest the true cosines.
 
-use oracle::args::{fail, Args};
+use oracle::args::{fail, top, Args};
 use oracle::{rule, sources};
 
 const HELP: &str = "\
@@ -17,10 +17,7 @@ Exit status: 0 every entry is the nearest; 1 one is not, or an interval holds a 
 
 fn main() {
     let mut args = Args::new(HELP);
-    let folder = args.value("--folder").unwrap_or_else(|| match sources::top() {
-        Ok(top) => top.join("crates/quarter/src"),
-        Err(why) => fail(&why),
-    });
+    let folder = args.value("--folder").unwrap_or_else(|| top().join("crates/quarter/src"));
     args.end();
     let found = sources::tables(&folder).unwrap_or_else(|why| fail(&why));
     let quarter: Vec<_> = found.iter().filter(|table| table.numbers.len() == 2049).collect();

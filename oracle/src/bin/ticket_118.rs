@@ -2,7 +2,7 @@
 
 use oracle::args::{fail, Args};
 use oracle::line_coder::{hash, indices, ours, published, samples_of, LineCoder};
-use oracle::speech::samples;
+use oracle::speech::call;
 use std::fs;
 use std::process::exit;
 
@@ -43,7 +43,7 @@ fn main() {
     }
     let (name, coder) = match coder.as_deref() {
         Some("rust") => ("the published Rust", published()),
-        Some("ours") => ("the library", ours()),
+        Some("ours") => ("the library", Ok(ours())),
         _ => args.fail("--coder is rust or ours"),
     };
     args.end();
@@ -67,7 +67,7 @@ fn main() {
 }
 
 fn code(coder: &LineCoder, seed: u64, frames: usize) -> Vec<u32> {
-    indices(coder, &samples(seed, samples_of(frames)))
+    indices(coder, &call(seed, samples_of(frames)))
 }
 
 /// Prints where two stored calls part.

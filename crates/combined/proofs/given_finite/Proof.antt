@@ -1,19 +1,23 @@
--- `combined::given_finite` meets its contract. Assumes nothing.
+-- `combined::given_finite` meets its contract: the tests joined are that no list fails. Assumes nothing.
 use borrow.Author.Needs.{needs}
-use mathlib.Core.Path.{_≡_, sym, _∙_}
-use mathlib.Core.Bool.{Bool, not, _&&_}
-use mathlib.Core.List.{List, [], _∷_}
+use mathlib.Core.Path.{_≡_, refl, _∙_}
+use mathlib.Core.Bool.{Bool, true, false, _&&_}
+use mathlib.Core.List.{[], _∷_}
 use lib.Ieee.{Float}
 use lib.Ieee.Scale.{finite}
-use Rattle.float.specs.Finite.{notFinite}
-use Rattle.float.specs.Refusal.{all, any}
-use Rattle.float.proofs.Anywhere.{nowhere, and-true}
+use Rattle.float.specs.Refusal.{all}
+use Rattle.float.proofs.Refusal.{joined}
 use Rattle.combined.proofs.given_finite.Statement.{statement}
 use Rattle.combined.proofs.given_finite.Tie as tie
 
-five : (x y z w : List Float) (v : Float) (a b c d e : Bool) → a ≡ all finite x → b ≡ all finite y → c ≡ all finite z → d ≡ all finite w → e ≡ finite v → a && (b && (c && (d && e))) ≡ not (any notFinite (x ∷ y ∷ z ∷ w ∷ (v ∷ []) ∷ []))
+-- the factor is a list of one
+alone : (a : Bool) (x : Float) → a ≡ finite x → a ≡ all finite (x ∷ [])
 unfolding all
-five x y z w v a b c d e p q r s t = rw (p, q, r, s, t) (sym (nowhere (x ∷ y ∷ z ∷ w ∷ (v ∷ []) ∷ []) ∙ simp and-true))
+alone a x e = e ∙ and-true (finite x)
+  where
+    and-true : (b : Bool) → b ≡ b && true
+    and-true true = refl
+    and-true false = refl
 
 pub given-finite-spec : {M : Type 1} → statement M
 given-finite-spec =
@@ -38,4 +42,4 @@ given-finite-spec =
     -- all-finite-requires-4
     (λ c κs. search needs)
     -- returns
-    (λ c. five _ _ _ _ _ _ _ _ _ _ (c .before .before .all-finite3 .ensures) (c .all-finite4 .ensures) (c .before .before .before .before .before .before .before .all-finite .ensures) (c .before .before .before .before .before .all-finite2 .ensures) (c .before .before .before .before .is-finite .ensures)))
+    (λ c. search (joined, alone) depth 9))

@@ -9,10 +9,10 @@ use Rattle.combined.proofs.harmonic_inputs.Tie as tie
 
 -- the history given is what the places start with
 abbrev Inv-loop : tie.InvT-loop
-Inv-loop line p₀ i₀ p i = Joined (take reach p₀) line i p
+Inv-loop delay p₀ i₀ p i = Joined (take reach p₀) delay i p
 
 abbrev μ-loop : tie.MeasureT-loop
-μ-loop line p₀ i₀ p i = 60 - i
+μ-loop delay p₀ i₀ p i = 60 - i
 
 pub harmonic-inputs-spec : {M : Type 1} → statement M
 harmonic-inputs-spec =
@@ -41,6 +41,6 @@ harmonic-inputs-spec =
     -- loop-less
     (λ c. search needs)
     -- loop-again
-    (λ c. joined-more _ (c .before .before .before .args .t2) _ _ (search needs) (c .loop-test .taken) (c .before .loop .inv))
+    (λ c. search (needs, joined-more))
     -- returns
-    (λ c. joined-all _ (c .before .before .before .args .t2) (c .before .before .start-history .result) _ _ (search needs) (c .loop-test .left) (c .before .before .start-history .ensures) (c .before .loop .inv)))
+    (λ c. search (needs, joined-all)))

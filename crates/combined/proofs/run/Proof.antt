@@ -1,5 +1,6 @@
--- `combined::run` meets its contract: after n turns the lines are those of n samples, synthesis one ahead. Assumes nothing.
+-- `combined::run` meets its contract: after n turns the delays are those of n samples, synthesis one ahead. Assumes nothing.
 use borrow.Author.Needs.{needs}
+use native.Mathlib.Omega.{arith}
 use mathlib.Core.Path.{refl}
 use Prim.Native.Nat.{_-_}
 use lib.ListN.{drop}
@@ -8,7 +9,7 @@ use Rattle.combined.proofs.Cascaded.{Cascaded, held, cascaded-none, cas
 use Rattle.combined.proofs.run.Statement.{statement}
 use Rattle.combined.proofs.run.Tie as tie
 
--- the memory is the one that the lines start with, and the input stands in the line that no sample is stored in before the loop
+-- the memory is the one that the delays start with, and the input stands in the delay that no sample is stored in before the loop
 abbrev Inv-loop : tie.InvT-loop
 Inv-loop lag beta aq wz wp p-hist syn₀ xs₀ fs₀ x s n₀ syn xs fs n = Cascaded (settings aq wz wp lag beta) (drop 10 fs₀) (held p-hist syn₀ xs₀ fs₀) n syn xs fs
 
@@ -21,17 +22,17 @@ run-spec =
     (tie.spec
     Inv-loop
     μ-loop
-    -- slice-aggregate-delay-line
+    -- slice-aggregate-delayed
     (λ c. search needs)
-    -- delay-line-requires
+    -- delayed-requires
     (λ c κs. search needs)
-    -- slice-aggregate-delay-line-2
+    -- slice-aggregate-delayed-2
     (λ c. search needs)
-    -- delay-line-requires-2
+    -- delayed-requires-2
     (λ c κs. search needs)
-    -- slice-aggregate-delay-line-3
+    -- slice-aggregate-delayed-3
     (λ c. search needs)
-    -- delay-line-requires-3
+    -- delayed-requires-3
     (λ c κs. search needs)
     -- array-read-x
     (λ c. search needs)
@@ -42,7 +43,7 @@ run-spec =
     -- array-write-xs
     (λ c. search needs)
     -- loop-holds
-    (λ c. cascaded-none _ _ _ _ _ _ (c .before .before .before .before .before .before .before .delay-line .ensures) (c .before .before .before .before .before .delay-line2 .ensures) (c .before .before .before .delay-line3 .ensures) _ (search needs) (c .synthesise-sample .ensures))
+    (λ c. search (needs, cascaded-none))
     -- add-s
     (λ c. search needs)
     -- mul-s
@@ -84,7 +85,10 @@ run-spec =
     -- loop-less
     (λ c. search needs)
     -- loop-again
-    (λ c. cascaded-more _ _ _ _ _ _ _ (c .before .before .before .before .before .before .before .before .before .loop .inv) _ _ refl (c .before .before .before .weight-sample .ensures) (c .before .before .before .before .before .before .before .before .loop-test .taken) _ _ refl (c .synthesise-sample2 .ensures))
+    (λ c.
+    let weighed = c .before .before .before in
+    let turned = weighed .before .before .before .before .before .before in
+    cascaded-more _ _ _ _ _ _ _ (turned .loop .inv) _ _ refl (weighed .weight-sample .ensures) (omega arith) _ _ refl (c .synthesise-sample2 .ensures))
     -- array-read-s-2
     (λ c. search needs)
     -- weight-sample-requires-2
@@ -104,5 +108,17 @@ run-spec =
     -- last-inputs-requires
     (λ c κs. search needs)
     -- returns
-    (λ c. cascaded-end _ _ _ _ _ _ _ _ _ _ _ _ _ _ _ _ _ _ _ (c .before .before .before .before .before .before .before .before .before .before .before .before .before .before .before .before .before .before .before .before .before .before .before .before .before .before .before .before .before .pre .0) (c .before .before .before .before .before .before .before .before .before .before .before .before .before .before .before .before .before .before .before .before .before .before .before .delay-line .ensures) (c .before .before .before .before .before .before .before .before .before .before .before .before .before .before .before .before .before .before .before .before .before .delay-line2 .ensures) (c .before .before .before .before .before .before .before .before .before .before .before .before .before .before .before .before .before .before .before .delay-line3 .ensures) (c .before .before .before .before .before .before .before .before .before .before .before .before .before .before .loop-test .left) refl (c .before .before .before .before .before .before .before .before .before .weight-sample2 .ensures)
-    (c .before .before .before .before .before .before .before .before .harmonic-inputs .ensures) (c .before .before .before .before .before .before .before .shape .ensures) (c .before .before .before .before .before .last-ten .ensures) (c .before .before .before .last-ten2 .ensures) (c .before .last-ten3 .ensures) (c .last-inputs .ensures) (c .before .before .before .before .before .before .before .before .before .before .before .before .before .before .before .loop .inv)))
+    (λ c.
+    -- from the last call back to the start
+    let poles = c .before in
+    let zeros = poles .before .before in
+    let synthesis = zeros .before .before in
+    let shaped = synthesis .before .before in
+    let inputs = shaped .before in
+    let weighed = inputs .before in
+    let left = weighed .before .before .before .before .before in
+    let delays = left .before .before .before .before .before in
+    let start = delays .before .before .before .before .before .before .before .before .before .before in
+    cascaded-end _ _ (start .pre .0) (delays .before .before .before .before .delayed .ensures) (delays .before .before .delayed2 .ensures) (delays .delayed3 .ensures)
+    (left .loop-test .left) refl (weighed .weight-sample2 .ensures) (inputs .harmonic-inputs .ensures) (shaped .shape .ensures)
+    (synthesis .last-ten .ensures) (zeros .last-ten2 .ensures) (poles .last-ten3 .ensures) (c .last-inputs .ensures) (left .before .loop .inv)))

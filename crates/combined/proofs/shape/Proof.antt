@@ -3,7 +3,7 @@ use borrow.Author.Needs.{needs}
 use mathlib.Core.Path.{refl}
 use Prim.Native.Nat.{_-_}
 use Rattle.float.proofs.Table.{Filled, filled-none, filled-more, filled-all}
-use Rattle.combined.specs.Memory.{shaped}
+use Rattle.combined.specs.inner.Shaped.{shaped}
 use Rattle.combined.proofs.shape.Statement.{statement}
 use Rattle.combined.proofs.shape.Tie as tie
 
@@ -46,6 +46,6 @@ shape-spec =
     -- loop-less
     (λ c. search needs)
     -- loop-again
-    (λ c. filled-more 60 _ _ _ _ (c .before .loop-test .taken) (c .take-product .ensures) (c .before .before .loop .inv))
+    (λ c. search filled-more)
     -- returns
-    (λ c. filled-all 60 _ _ _ (c .loop-test .left) (c .before .loop .inv)))
+    (λ c. search filled-all))

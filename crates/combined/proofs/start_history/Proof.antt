@@ -18,8 +18,11 @@ Inv-loop p-hist p₀ i₀ p i = (i ≤ reach) × Filled (reach + 60) (at p-hist)
 abbrev μ-loop : tie.MeasureT-loop
 μ-loop p-hist p₀ i₀ p i = reach - i
 
-copied : (p-hist p : List Float) (i : ℕ) → length p-hist ≡ reach → i ≡ reach → Filled (reach + 60) (at p-hist) i p → take reach p ≡ p-hist
-copied p-hist p i h e r = rw e at (r .done) ∙ table-entries reach p-hist nan h
+copied : (p-hist p : List Float) (i : ℕ) → length p-hist ≡ reach → i ≤ reach → reach ≤ i
+    → Filled (reach + 60) (at p-hist) i p → take reach p ≡ p-hist
+copied p-hist p i h l m r =
+    let e : i ≡ reach = omega arith in
+    rw e at (r .done) ∙ table-entries reach p-hist nan h
 
 pub start-history-spec : {M : Type 1} → statement M
 start-history-spec =
@@ -44,4 +47,4 @@ start-history-spec =
     -- loop-again
     (λ c. (omega arith, filled-more (reach + 60) _ _ _ _ (omega arith) refl (c .before .loop .inv .1)))
     -- returns
-    (λ c. copied (c .before .before .args .t1) (c .before .loop .p) (c .before .loop .i) (search needs) (omega arith) (c .before .loop .inv .1)))
+    (λ c. search (needs, copied)))

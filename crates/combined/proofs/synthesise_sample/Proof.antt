@@ -8,8 +8,8 @@ use lib.Ieee.{Float}
 use Rattle.float.specs.Single.{_⊖_, _⊗_}
 use Rattle.float.specs.Vector.{at}
 use Rattle.float.proofs.Loop.{Went, went-none, went-more, went-all}
-use Rattle.weighting.specs.Line.{behind}
-use Rattle.weighting.proofs.Line.{at-behind}
+use Rattle.weighting.specs.inner.Delay.{behind}
+use Rattle.weighting.proofs.Delay.{at-behind}
 use Rattle.combined.specs.Cascade.{takeTap, synthesised}
 use Rattle.combined.proofs.synthesise_sample.Statement.{statement}
 use Rattle.combined.proofs.synthesise_sample.Tie as tie
@@ -20,8 +20,10 @@ Inv-loop x n aq syn s₀ k₀ s k = Went 0 10 (takeTap aq (behind n syn)) x k s
 abbrev μ-loop : tie.MeasureT-loop
 μ-loop x n aq syn s₀ k₀ s k = 10 - k
 
--- one turn: the line's value is that of the memory
-turn : (n : ℕ) (aq syn : List Float) (x : Float) (k : ℕ) (s t : Float) → k < 10 → t ≡ s ⊖ at aq (k + 1) ⊗ at syn (n + 9 - k) → Went 0 10 (takeTap aq (behind n syn)) x k s → Went 0 10 (takeTap aq (behind n syn)) x (k + 1) t
+-- one turn: the delay's value is that of the memory
+turn : (n : ℕ) (aq syn : List Float) (x : Float) (k : ℕ) (s t : Float) → k < 10
+    → t ≡ s ⊖ at aq (k + 1) ⊗ at syn (n + 9 - k)
+    → Went 0 10 (takeTap aq (behind n syn)) x k s → Went 0 10 (takeTap aq (behind n syn)) x (k + 1) t
 unfolding takeTap
 turn n aq syn x k s t h e r = went-more 0 10 _ _ k s t h (e ∙ rw (add-one, at-behind n syn k h)) r
 
@@ -55,6 +57,6 @@ synthesise-sample-spec =
     -- loop-less
     (λ c. search needs)
     -- loop-again
-    (λ c. turn (c .before .before .before .before .before .args .n) (c .before .before .before .before .before .args .aq .now) (c .before .before .before .before .before .args .syn .now) _ _ _ _ (search needs) (c .take-product .ensures) (c .before .before .before .before .loop .inv))
+    (λ c. search turn)
     -- returns
-    (λ c. went-all 0 10 _ _ _ _ (c .loop-test .left) (c .before .loop .inv)))
+    (λ c. search went-all))

@@ -26,14 +26,16 @@ abbrev μ-loop : tie.MeasureT-loop
 μ-loop t freq out₀ i₀ out i = 10 - i
 
 -- each frequency is within the bound
-bounded : (freq : List Float) (i : ℕ) → anyExceeds (single 65536 1) freq ≡ false → i < length freq → exceeds (power 16) (getD freq i nan) ≡ false
+bounded : (freq : List Float) (i : ℕ) → anyExceeds (single 65536 1) freq ≡ false → i < length freq →
+    exceeds (power 16) (getD freq i nan) ≡ false
 unfolding single round
 bounded freq i h l = any-at (exceeds (power 16)) freq h i nan l
 
 found : (x r : Float) (k : ℕ) → k ≡ stepOfFrequency x → r ≡ cosineSingle k → r ≡ cosineOf x
 found x r k e f = f ∙ ap cosineSingle e
 
-finish : (freq out : List Float) (i : ℕ) → length freq ≡ 10 → 10 ≤ i → Filled 10 (line freq) i out → out ≡ map cosineOf freq
+finish : (freq out : List Float) (i : ℕ) → length freq ≡ 10 → 10 ≤ i → Filled 10 (line freq) i out →
+    out ≡ map cosineOf freq
 finish freq out i l h r = filled-all 10 (line freq) i out h r ∙ sym (map-table cosineOf freq 10 nan l)
 
 pub cosines-in-spec : {M : Type 1} → statement M
@@ -43,13 +45,13 @@ cosines-in-spec =
     Inv-loop
     μ-loop
     -- loop-holds
-    (λ c. filled-none 10 (line (c .args .t2)) _ refl)
+    (λ c. filled-none 10 _ _ refl)
     -- mul-step-of-frequency
     (λ c. search needs)
     -- array-read-step-of-frequency
     (λ c. search needs)
     -- step-of-frequency-requires
-    (λ c κs. bounded _ _ (c .before .before .pre .1) (search needs))
+    (λ c κs. search (bounded, needs))
     -- cosine-single-requires
     (λ c κs. search needs)
     -- mul-out
@@ -61,7 +63,6 @@ cosines-in-spec =
     -- loop-less
     (λ c. search needs)
     -- loop-again
-    (λ c. filled-more 10 (line (c .before .before .before .before .args .t2)) _ _ _ (c .before .before .loop-test .taken)
-    (found _ _ _ (c .before .step-of-frequency .ensures .0) (c .cosine-single .ensures)) (c .before .before .before .loop .inv))
+    (λ c. search (filled-more, found))
     -- returns
-    (λ c. finish (c .before .before .args .t2) _ _ (search needs) (c .loop-test .left) (c .before .loop .inv)))
+    (λ c. search (finish, needs)))

@@ -27,13 +27,15 @@ abbrev μ-loop : tie.MeasureT-loop
 μ-loop t cosines out₀ i₀ out i = 10 - i
 
 -- the step of a finite cosine is one of half a circle
-half : (cosines : List Float) (i k : ℕ) → all finite cosines ≡ true → i < length cosines → k ≡ step (held (getD cosines i nan)) → k ≤ 2 ^ 24
-half cosines i k h l e = subst (λ (n : ℕ). n ≤ 2 ^ 24) (sym e) (step-held (getD cosines i nan) (all-at finite cosines (subst T (sym h) tt) i nan l) .1)
+half : (cosines : List Float) (i k : ℕ) → all finite cosines ≡ true → i < length cosines →
+    k ≡ step (held (getD cosines i nan)) → k ≤ 2 ^ 24
+half cosines i k h l e = rw e (step-held (getD cosines i nan) (all-at finite cosines (subst T (sym h) tt) i nan l) .1)
 
 found : (x r : Float) (k : ℕ) → k ≡ step (held x) → r ≡ frequency k → r ≡ freqOf x
 found x r k e f = f ∙ ap frequency e
 
-finish : (cosines out : List Float) (i : ℕ) → length cosines ≡ 10 → 10 ≤ i → Filled 10 (line cosines) i out → out ≡ map freqOf cosines
+finish : (cosines out : List Float) (i : ℕ) → length cosines ≡ 10 → 10 ≤ i → Filled 10 (line cosines) i out →
+    out ≡ map freqOf cosines
 finish cosines out i l h r = filled-all 10 (line cosines) i out h r ∙ sym (map-table freqOf cosines 10 nan l)
 
 pub freqs-in-spec : {M : Type 1} → statement M
@@ -43,7 +45,7 @@ freqs-in-spec =
     Inv-loop
     μ-loop
     -- loop-holds
-    (λ c. filled-none 10 (line (c .args .t2)) _ refl)
+    (λ c. filled-none 10 _ _ refl)
     -- mul-step
     (λ c. search needs)
     -- array-read-step
@@ -51,7 +53,7 @@ freqs-in-spec =
     -- step-requires
     (λ c κs. search needs)
     -- frequency-requires
-    (λ c κs. half _ _ _ (c .before .before .before .pre .1) (search needs) (c .step .ensures))
+    (λ c κs. search (half, needs))
     -- mul-out
     (λ c. search needs)
     -- array-write-out
@@ -61,7 +63,6 @@ freqs-in-spec =
     -- loop-less
     (λ c. search needs)
     -- loop-again
-    (λ c. filled-more 10 (line (c .before .before .before .before .args .t2)) _ _ _ (c .before .before .loop-test .taken)
-    (found _ _ _ (c .before .step .ensures) (c .frequency .ensures)) (c .before .before .before .loop .inv))
+    (λ c. search (filled-more, found))
     -- returns
-    (λ c. finish (c .before .before .args .t2) _ _ (search needs) (c .loop-test .left) (c .before .loop .inv)))
+    (λ c. search (finish, needs)))

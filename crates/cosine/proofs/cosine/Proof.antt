@@ -8,7 +8,8 @@ use native.Mathlib.Omega.{arith}
 use lib.Dec.{T, le→leb, lit≤}
 use lib.IntN.{pos}
 use lib.Ieee.{Float, binary64, inFloat, neg, div, ofInt, ofBits, round}
-use Rattle.cosine.specs.Cosine.{folded, low, cosine}
+use Rattle.cosine.specs.Cosine.{folded, cosine}
+use Rattle.cosine.specs.inner.Low.{low}
 use Rattle.cosine.proofs.Blend.{low-le}
 use Rattle.cosine.proofs.Exact.{ratio-code, folded-le, cosine-low, cosine-high-code}
 use Rattle.cosine.proofs.cosine.Statement.{statement}

@@ -11,7 +11,7 @@ use mir.Syntax.{w64}
 use mir.Facts.{fits-le, fits-lit}
 use Rattle.quarter.specs.Quarter.{quarter}
 use Rattle.quarter.proofs.Fall.{at-most}
-use Rattle.cosine.specs.Cosine.{low}
+use Rattle.cosine.specs.inner.Low.{low}
 use Rattle.cosine.proofs.low_blend.Statement.{statement}
 use Rattle.cosine.proofs.low_blend.Tie as tie
 

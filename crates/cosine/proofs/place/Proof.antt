@@ -8,7 +8,7 @@ use mathlib.Core.Bool.{Bool, true, false, cond}
 use Prim.Native.Nat.{ℕ, _+_, _/_, _<_}
 use lib.Dec.{leb}
 use Rattle.quarter.specs.Quarter.{quarter}
-use Rattle.cosine.specs.Search.{entryWithin}
+use Rattle.cosine.specs.inner.Search.{entryWithin}
 use Rattle.cosine.proofs.Halving.{Halving, halving-none, halving-more, halving-done, halving-room}
 use Rattle.cosine.proofs.place.Statement.{statement}
 use Rattle.cosine.proofs.place.Tie as tie

@@ -1,4 +1,4 @@
--- `impulse::combined_impulse_response` meets its contract. Assumes nothing.
+-- `impulse::combined_impulse_response` meets its contract: the filter is run from rest on the code's impulse, which is the unit impulse. Assumes nothing.
 use borrow.Author.Needs.{needs}
 use mathlib.Core.Path.{_≡_, refl, ap, _∙_}
 use mathlib.Core.List.{List, _∷_}
@@ -9,8 +9,8 @@ use Rattle.combined.specs.declared.CombinedMem.{CombinedMem}
 use Rattle.combined.specs.declared.Combined.{Combined}
 use Rattle.combined.specs.Memory.{atRest}
 use Rattle.combined.specs.Cascade.{Settings}
-use Rattle.combined.specs.Run.{runCombined}
-use Rattle.impulse.specs.Impulse.{impulse, response, impulseResponse}
+use Rattle.combined.specs.Run.{runCombined, answered}
+use Rattle.impulse.specs.Impulse.{impulse, impulseResponse}
 use Rattle.impulse.proofs.combined_impulse_response.Statement.{statement}
 use Rattle.impulse.proofs.combined_impulse_response.Tie as tie
 
@@ -19,11 +19,13 @@ delta : ofBits binary32 1065353216 ∷ replicate 59 (ofBits binary32 0) ≡ impu
 unfolding single round ofBits
 delta = refl
 
-rested : (q : Settings) (mem : CombinedMem) (r : Combined) → mem ≡ atRest → r ≡ runCombined q (ofBits binary32 1065353216 ∷ replicate 59 (ofBits binary32 0)) mem → response r ≡ impulseResponse q
+rested : (q : Settings) (mem : CombinedMem) (r : Combined) → mem ≡ atRest
+    → r ≡ runCombined q (ofBits binary32 1065353216 ∷ replicate 59 (ofBits binary32 0)) mem
+    → answered r ≡ impulseResponse q
 unfolding impulseResponse
 rested q mem r e f =
     let g : r ≡ runCombined q impulse atRest = f ∙ rw (delta, e) in
-    ap response g
+    ap answered g
 
 pub combined-impulse-response-spec : {M : Type 1} → statement M
 combined-impulse-response-spec =
@@ -36,4 +38,4 @@ combined-impulse-response-spec =
     -- run-combined-requires
     (λ c κs. search needs)
     -- returns
-    (λ c. rested _ _ _ (c .before .before .new .ensures) (c .before .run-combined .ensures)))
+    (λ c. search rested))

@@ -23,16 +23,19 @@ abbrev μ-loop : tie.MeasureT-loop
 μ-loop first from to sums b₀ lag₀ b lag = to - lag
 
 -- a lag whose sums are both positive competes
-competes : (x y t : Best) (j : ℕ) (num den : Float) → lt (double 0 1) num ≡ true → lt (double 0 1) den ≡ true → t ≡ challenged preferred x j (ratioOf num den) → y ≡ t → y ≡ offered preferred x j num den
+competes : (x y t : Best) (j : ℕ) (num den : Float) → lt (double 0 1) num ≡ true → lt (double 0 1) den ≡ true
+    → t ≡ challenged preferred x j (ratioOf num den) → y ≡ t → y ≡ offered preferred x j num den
 unfolding offered
 competes x y t j num den p q e f = rw (p, q) (f ∙ e)
 
 -- any other one changes nothing
-no-power : (x y : Best) (j : ℕ) (num den : Float) → lt (double 0 1) num ≡ true → lt (double 0 1) den ≡ false → y ≡ x → y ≡ offered preferred x j num den
+no-power : (x y : Best) (j : ℕ) (num den : Float) → lt (double 0 1) num ≡ true → lt (double 0 1) den ≡ false → y ≡ x
+    → y ≡ offered preferred x j num den
 unfolding offered
 no-power x y j num den p q f = rw (p, q) f
 
-no-cross : (x y : Best) (j : ℕ) (num den : Float) → lt (double 0 1) num ≡ false → y ≡ x → y ≡ offered preferred x j num den
+no-cross : (x y : Best) (j : ℕ) (num den : Float) → lt (double 0 1) num ≡ false → y ≡ x
+    → y ≡ offered preferred x j num den
 unfolding offered
 no-cross x y j num den p f = rw p f
 
@@ -66,12 +69,6 @@ compete-spec =
     -- loop-less
     (λ c. search needs)
     -- loop-again
-    (λ c. went-more _ _ _ _ _ _ _ (c .before .before .before .loop-test .taken)
-    (⊎-elim
-    (λ w. competes _ _ _ _ _ _ (w .0 .taken) (w .1 .taken) (w .2 .ensures) (w .3))
-    (⊎-elim
-    (λ w. no-power _ _ _ _ _ (w .0 .taken) (w .1 .left) (w .2))
-    (λ w. no-cross _ _ _ _ _ (w .0 .left) (w .1)))
-    (c .if1 .came)) (c .before .before .before .before .loop .inv))
+    (λ c. ⊎-elim (λ w. search (went-more, competes)) (⊎-elim (λ w. search (went-more, no-power)) (λ w. search (went-more, no-cross))) (c .if1 .came))
     -- returns
-    (λ c. went-all _ _ _ _ _ _ (c .loop-test .left) (c .before .loop .inv)))
+    (λ c. search went-all))

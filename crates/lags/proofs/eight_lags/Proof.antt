@@ -49,11 +49,11 @@ eight-lags-spec =
     (λ c. (
       search needs,
       refl,
-      lanes-more _ _ _ _ _ _ _ _ _ refl (search needs) (search needs) (omega arith) (c .before .sample-more .ensures) (c .before .before .before .before .loop .inv .2),
-      lanes-more _ _ _ _ _ _ _ _ _ refl (search needs) (search needs) (omega arith) (c .sample-more2 .ensures) (c .before .before .before .before .loop .inv .3),
+      lanes-more _ _ _ _ _ _ _ _ _ refl (search needs) (search needs) (omega arith) (c .before .sample-more .ensures) (search),
+      lanes-more _ _ _ _ _ _ _ _ _ refl (search needs) (search needs) (omega arith) (c .sample-more2 .ensures) (search),
     ))
     -- returns
     (λ c.
-    let v = lanes-last _ _ _ _ _ _ _ (c .before .loop .inv .0) (c .loop-test .left) (c .before .loop .inv .2) in
-    let w = lanes-last _ _ _ _ _ _ _ (c .before .loop .inv .0) (c .loop-test .left) (c .before .loop .inv .3) in
+    let v = lanes-last _ _ _ _ _ _ _ (search) (search) (c .before .loop .inv .2) in
+    let w = lanes-last _ _ _ _ _ _ _ (search) (search) (c .before .loop .inv .3) in
     (eight-cross _ _ _ _ _ _ _ v w, eight-power _ _ _ _ _ _ _ v w)))

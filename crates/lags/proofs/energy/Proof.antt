@@ -4,7 +4,7 @@ use native.Mathlib.Omega.{arith}
 use mathlib.Core.Path.{_≡_}
 use Prim.Native.Nat.{_-_, _≤_}
 use lib.Ieee.{ofBits}
-use Rattle.lags.specs.Lags.{delayed}
+use Rattle.lags.specs.inner.Delayed.{delayed}
 use Rattle.lags.proofs.Sums.{delayed-none, delayed-more, delayed-all}
 use Rattle.lags.proofs.energy.Statement.{statement}
 use Rattle.lags.proofs.energy.Tie as tie
@@ -35,6 +35,6 @@ energy-spec =
     -- loop-less
     (λ c. search needs)
     -- loop-again
-    (λ c. (search needs, delayed-more _ _ _ 0 _ _ (omega arith) (c .before .before .loop .inv .1)))
+    (λ c. (search needs, delayed-more _ _ _ 0 _ _ (omega arith) (search)))
     -- returns
-    (λ c. delayed-all _ _ _ _ 0 _ (c .before .loop .inv .0) (c .loop-test .left) (c .before .loop .inv .1)))
+    (λ c. search delayed-all))

@@ -1,7 +1,7 @@
 -- `lags::sample_more` meets its contract: each of the eight sums is added to once. Assumes nothing.
 use borrow.Author.Needs.{needs}
 use mathlib.Core.Path.{refl}
-use Rattle.lags.specs.Four.{sampleMore}
+use Rattle.lags.specs.inner.Four.{sampleMore}
 use Rattle.lags.proofs.sample_more.Statement.{statement}
 use Rattle.lags.proofs.sample_more.Tie as tie
 

@@ -40,6 +40,6 @@ square-spec =
     -- loop-less
     (λ c. search needs)
     -- loop-again
-    (λ c. filled-more 265 _ _ _ _ (c .before .before .loop-test .taken) refl (c .before .before .before .loop .inv))
+    (λ c. search filled-more)
     -- returns
-    (λ c. filled-all 265 _ _ _ (c .loop-test .left) (c .before .loop .inv)))
+    (λ c. search filled-all))

@@ -22,7 +22,8 @@ record Copied (out₀ f : List Float) (i : ℕ) (out : List Float) : Type 0 wher
   pub same : take i out ≡ take i f
   pub rest : (k : ℕ) → i ≤ k → drop k out ≡ drop k out₀
 
-more : (out₀ f : List Float) (i : ℕ) (out : List Float) (a : Float) → length f ≤ 265 → i < length f → a ≡ getD f i nan → Copied out₀ f i out → Copied out₀ f (i + 1) (set out i a)
+more : (out₀ f : List Float) (i : ℕ) (out : List Float) (a : Float) → length f ≤ 265 → i < length f → a ≡ getD f i nan
+    → Copied out₀ f i out → Copied out₀ f (i + 1) (set out i a)
 more out₀ f i out a h l e r = record {
   bound = omega arith;
   long = length-set out i a ∙ r .long;
@@ -30,7 +31,8 @@ more out₀ f i out a h l e r = record {
   rest = λ k m. drop-set-lt k out i a (omega arith) ∙ r .rest k (omega arith);
 }
 
-all : (out₀ f : List Float) (i : ℕ) (out : List Float) → length f ≤ i → Copied out₀ f i out → out ≡ f ++ drop (length f) out₀
+all : (out₀ f : List Float) (i : ℕ) (out : List Float) → length f ≤ i → Copied out₀ f i out
+    → out ≡ f ++ drop (length f) out₀
 all out₀ f i out h r =
     let e : i ≡ length f = omega (arith, r .bound) in
     let s : take (length f) out ≡ f = ap (λ (n : ℕ). take n out) (sym e) ∙ r .same ∙ take-all i f h in
@@ -62,7 +64,7 @@ widen-spec =
     -- shared-slice-read-out
     (λ c. search needs)
     -- float-to-float-out
-    (λ c. castable _ (c .row-known .given) (all-at finite _ (c .before .before .before .before .pre .1 .1) _ nan (c .before .before .loop-test .taken)))
+    (λ c. castable _ (c .row-known .given) (search (all-at finite)))
     -- mul-out-2
     (λ c. search needs)
     -- element-write-out
@@ -72,6 +74,6 @@ widen-spec =
     -- loop-less
     (λ c. search needs)
     -- loop-again
-    (λ c. more _ _ _ _ _ (c .before .before .before .before .pre .1 .0) (c .before .before .loop-test .taken) refl (c .before .before .before .loop .inv))
+    (λ c. search more)
     -- returns
-    (λ c. all _ _ _ _ (c .loop-test .left) (c .before .loop .inv)))
+    (λ c. search all))

@@ -1,10 +1,9 @@
 -- `line::play` meets its contract: each way to return is what the turn of the definition does. Assumes nothing.
 use borrow.Author.Needs.{needs}
 use borrow.Author.Tests.{eq-eqb, ne-eqb, not-true, not-false}
-use mathlib.Core.Path.{_≡_, refl, sym, ap, _∙_}
-use mathlib.Core.Bool.{Bool, true, false}
-use lib.Dec.{eqb}
-use Rattle.spec_lsp.specs.declared.decode.LspFreq.{LspFreq}
+use mathlib.Core.Path.{_≡_}
+use mathlib.Core.Bool.{true, false, not}
+use Rattle.float.specs.declared.Lines.{Lines}
 use Rattle.spec_lsp.specs.declared.quantise.Quantised.{Quantised}
 use Rattle.line.specs.declared.Turn.{Turn}
 use Rattle.line.specs.declared.Ends.{Ends}
@@ -14,21 +13,30 @@ use Rattle.line.proofs.play.Statement.{statement}
 use Rattle.line.proofs.play.Tie as tie
 
 module _ (quantise : Coder) (decode : Decoder) (e : Ends) (t : Turn) (q : Quantised) (f : q ≡ quantise (t .given) (e .coder)) where
-  nothing-sent : (q .status ≡ 0 → ⊥) → _≡_ {A = Played} (record { ends = record { coder = e .coder; decoder = e .decoder }; sent = false; arrived = false }) (played quantise decode e t)
+  nothing-sent : (q .status ≡ 0 → ⊥) →
+      _≡_ {A = Played} (record { ends = record { coder = e .coder; decoder = e .decoder }; sent = false; arrived = false })
+      (played quantise decode e t)
   unfolding played step
   nothing-sent h = rw (← f, ne-eqb (q .status) 0 h)
 
-  lost : q .status ≡ 0 → t .brings ≡ false → _≡_ {A = Played} (record { ends = record { coder = q .set; decoder = e .decoder }; sent = true; arrived = false }) (played quantise decode e t)
+  lost : q .status ≡ 0 → not (t .brings) ≡ true →
+      _≡_ {A = Played} (record { ends = record { coder = q .set; decoder = e .decoder }; sent = true; arrived = false })
+      (played quantise decode e t)
   unfolding played step
-  lost h b = rw (← f, eq-eqb (q .status) 0 h, b)
+  lost h b = rw (← f, eq-eqb (q .status) 0 h, not-true (t .brings) b)
 
-  unread : (d : LspFreq) → d ≡ decode (q .index) (e .decoder) → q .status ≡ 0 → t .brings ≡ true → (d .status ≡ 0 → ⊥) → _≡_ {A = Played} (record { ends = record { coder = q .set; decoder = e .decoder }; sent = true; arrived = true }) (played quantise decode e t)
+  unread : (d : Lines) → d ≡ decode (q .index) (e .decoder) → q .status ≡ 0 → not (t .brings) ≡ false →
+      (d .status ≡ 0 → ⊥) →
+      _≡_ {A = Played} (record { ends = record { coder = q .set; decoder = e .decoder }; sent = true; arrived = true })
+      (played quantise decode e t)
   unfolding played step
-  unread d g h b n = rw (← f, eq-eqb (q .status) 0 h, b, ← g, ne-eqb (d .status) 0 n)
+  unread d g h b n = rw (← f, eq-eqb (q .status) 0 h, not-false (t .brings) b, ← g, ne-eqb (d .status) 0 n)
 
-  taken : (d : LspFreq) → d ≡ decode (q .index) (e .decoder) → q .status ≡ 0 → t .brings ≡ true → d .status ≡ 0 → _≡_ {A = Played} (record { ends = record { coder = q .set; decoder = d .set }; sent = true; arrived = true }) (played quantise decode e t)
+  taken : (d : Lines) → d ≡ decode (q .index) (e .decoder) → q .status ≡ 0 → not (t .brings) ≡ false → d .status ≡ 0 →
+      _≡_ {A = Played} (record { ends = record { coder = q .set; decoder = d .lines }; sent = true; arrived = true })
+      (played quantise decode e t)
   unfolding played step
-  taken d g h b n = rw (← f, eq-eqb (q .status) 0 h, b, ← g, eq-eqb (d .status) 0 n)
+  taken d g h b n = rw (← f, eq-eqb (q .status) 0 h, not-false (t .brings) b, ← g, eq-eqb (d .status) 0 n)
 
 pub play-spec : {M : Type 1} → statement M
 play-spec =
@@ -37,12 +45,12 @@ play-spec =
     -- quantise-lsp-freq-requires
     (λ c κs. search needs)
     -- returns
-    (λ c. nothing-sent _ _ _ _ _ (c .before .quantise-lsp-freq .ensures) (c .if1 .taken))
+    (λ c. search nothing-sent)
     -- returns-2
-    (λ c. lost _ _ _ _ _ (c .before .before .before .before .quantise-lsp-freq .ensures) (c .before .before .before .if1 .left) (not-true _ (c .if2 .taken)))
+    (λ c. search lost)
     -- decode-lsp-freq-requires
     (λ c κs. search needs)
     -- returns-3
-    (λ c. unread _ _ _ _ _ (c .before .before .before .before .before .before .quantise-lsp-freq .ensures) _ (c .before .decode-lsp-freq .ensures) (c .before .before .before .before .before .if1 .left) (not-false _ (c .before .before .if2 .left)) (c .if3 .taken))
+    (λ c. search unread)
     -- returns-4
-    (λ c. taken _ _ _ _ _ (c .before .before .before .before .before .before .before .quantise-lsp-freq .ensures) _ (c .before .before .decode-lsp-freq .ensures) (c .before .before .before .before .before .before .if1 .left) (not-false _ (c .before .before .before .if2 .left)) (c .before .if3 .left)))
+    (λ c. search taken))

@@ -1,8 +1,7 @@
 -- `lpc::levinson` meets its contract: up to i the state is the recursion's. Assumes nothing.
-use mathlib.Core.Path.{_≡_, refl, _∙_}
+use mathlib.Core.Path.{_≡_}
 use mathlib.Core.Bool.{false}
-use mathlib.Core.List.{List, [], _∷_}
-use native.Mathlib.Omega.{arith}
+use mathlib.Core.List.{List}
 use Prim.Native.Nat.{ℕ, _-_, _≤_}
 use lib.Dec.{lit≤}
 use lib.Ieee.{Float, nan, binary32, binary64, ofBits, round}
@@ -22,7 +21,16 @@ Inv-loop r s₀ i₀ s i = Went 1 11 (order r) (start r) i s
 abbrev μ-loop : tie.MeasureT-loop
 μ-loop r s₀ i₀ s i = 11 - i
 
-begin : (r : List Float) → Went 1 11 (order r) (start r) 1 (record { a = set (replicate 11 (ofBits binary64 0)) 0 (ofBits binary64 4607182418800017408); error = getD r 0 nan; k2 = ofBits binary32 0; stopped = false })
+-- order 0, as the code writes it
+abbrev begun : List Float → Recursion
+begun r = record {
+  a = set (replicate 11 (ofBits binary64 0)) 0 (ofBits binary64 4607182418800017408);
+  error = getD r 0 nan;
+  k2 = ofBits binary32 0;
+  stopped = false;
+}
+
+begin : (r : List Float) → Went 1 11 (order r) (start r) 1 (begun r)
 unfolding start single double round ofBits
 begin r = went-none 1 11 (order r) (start r) (lit≤ tt)
 
@@ -43,12 +51,12 @@ levinson-spec =
     -- loop-holds
     (λ c. begin _)
     -- try-order-requires
-    (λ c κs. (c .before .loop .inv .from, omega arith))
+    (λ c κs. search needs)
     -- add-i
     (λ c. search needs)
     -- loop-less
     (λ c. search needs)
     -- loop-again
-    (λ c. went-more 1 11 _ _ _ _ _ (c .before .loop-test .taken) (c .try-order .ensures) (c .before .before .loop .inv))
+    (λ c. search went-more)
     -- returns
-    (λ c. all _ _ _ (c .loop-test .left) (c .before .loop .inv)))
+    (λ c. search all))

@@ -38,6 +38,6 @@ narrowed-spec =
     -- loop-less
     (λ c. search needs)
     -- loop-again
-    (λ c. filled-more 11 _ _ _ _ (search needs) (c .narrow .ensures) (c .before .before .loop .inv))
+    (λ c. search filled-more)
     -- returns
-    (λ c. filled-all 11 _ _ _ (c .loop-test .left) (c .before .loop .inv)))
+    (λ c. search filled-all))

@@ -1,6 +1,6 @@
 -- `lpc::raise` meets its contract: k at place i, then the places 1 to j - 1 are new. Assumes nothing.
-use mathlib.Core.Path.{_≡_, refl, sym, ap, _∙_}
-use mathlib.Core.Bool.{Bool, true, false, cond}
+use mathlib.Core.Path.{_≡_, refl, ap, _∙_}
+use mathlib.Core.Bool.{cond}
 use mathlib.Core.List.{List}
 use Prim.Native.Nat.{ℕ, _+_, _-_, _≤_, _<_}
 use native.Mathlib.Omega.{arith}
@@ -28,7 +28,8 @@ Inv-loop i k a out₀ j₀ out j = (1 ≤ j) × (j ≤ i) × (out ≡ table 11 (
 abbrev μ-loop : tie.MeasureT-loop
 μ-loop i k a out₀ j₀ out j = i - j
 
-start : (i : ℕ) (k : Float) (a : List Float) → length a ≡ 11 → i ≤ 10 → set a i k ≡ table 11 (between 1 1 (new i k a) (old i k a))
+start : (i : ℕ) (k : Float) (a : List Float) → length a ≡ 11 → i ≤ 10 →
+    set a i k ≡ table 11 (between 1 1 (new i k a) (old i k a))
 unfolding old
 start i k a l h =
     ap (λ (xs : List Float). set xs i k) (as-table 11 a nan l)
@@ -36,11 +37,14 @@ start i k a l h =
     (λ j b o. rw (ne-eqb j i o))
     ∙ between-none 11 1 (new i k a) (old i k a)
 
-more : (i : ℕ) (k : Float) (a out : List Float) (j : ℕ) → 1 ≤ j → j < i → i ≤ 10 → out ≡ table 11 (between 1 j (new i k a) (old i k a)) → set out j (getD a j nan ⊞ k ⊠ getD a (i - j) nan) ≡ table 11 (between 1 (j + 1) (new i k a) (old i k a))
+more : (i : ℕ) (k : Float) (a out : List Float) (j : ℕ) → 1 ≤ j → j < i → i ≤ 10 →
+    out ≡ table 11 (between 1 j (new i k a) (old i k a)) →
+    set out j (getD a j nan ⊞ k ⊠ getD a (i - j) nan) ≡ table 11 (between 1 (j + 1) (new i k a) (old i k a))
 unfolding new
 more i k a out j f h b e = rw e (between-up 11 1 j (new i k a) (old i k a) (new i k a j) f (omega arith) refl)
 
-all : (i : ℕ) (k : Float) (a out : List Float) (j : ℕ) → i ≤ j → j ≤ i → out ≡ table 11 (between 1 j (new i k a) (old i k a)) → out ≡ raised i k a
+all : (i : ℕ) (k : Float) (a out : List Float) (j : ℕ) → i ≤ j → j ≤ i →
+    out ≡ table 11 (between 1 j (new i k a) (old i k a)) → out ≡ raised i k a
 unfolding new old raised
 all i k a out j h l e =
     let q : j ≡ i = omega arith in
@@ -57,7 +61,7 @@ raise-spec =
     -- array-write-out
     (λ c. search needs)
     -- loop-holds
-    (λ c. (search needs, search needs, start _ _ _ (c .good .1 .1 .0 .1 .0 .1) (c .pre .1)))
+    (λ c. search (start, needs))
     -- mul-out-2
     (λ c. search needs)
     -- array-read-out
@@ -77,6 +81,6 @@ raise-spec =
     -- loop-less
     (λ c. search needs)
     -- loop-again
-    (λ c. (search needs, search needs, more _ _ _ _ _ (c .before .loop .inv .0) (c .loop-test .taken) (c .before .before .pre .1) (c .before .loop .inv .2)))
+    (λ c. search (more, needs))
     -- returns
-    (λ c. all _ _ _ _ _ (c .loop-test .left) (c .before .loop .inv .1) (c .before .loop .inv .2)))
+    (λ c. search all))

@@ -4,7 +4,6 @@ use mathlib.Core.List.{List}
 use Prim.Native.Nat.{ℕ, _+_, _-_, _≤_, _<_}
 use lib.Ieee.{Float, nan, neg}
 use lib.ListN.{getD}
-use Rattle.float.specs.Loop.{over}
 use Rattle.float.specs.Double.{_⊞_, _⊠_, _⧄_}
 use Rattle.float.proofs.Loop.{Went, went-none, went-more, went-all}
 use Rattle.lpc.specs.Levinson.{reflection}
@@ -22,11 +21,13 @@ Inv-loop r i a error acc₀ j₀ acc j = Went 1 i (term r a i) (getD r i nan) j 
 abbrev μ-loop : tie.MeasureT-loop
 μ-loop r i a error acc₀ j₀ acc j = i - j
 
-more : (r a : List Float) (i j : ℕ) (acc : Float) → j < i → Went 1 i (term r a i) (getD r i nan) j acc → Went 1 i (term r a i) (getD r i nan) (j + 1) (acc ⊞ getD a j nan ⊠ getD r (i - j) nan)
+more : (r a : List Float) (i j : ℕ) (acc : Float) → j < i → Went 1 i (term r a i) (getD r i nan) j acc →
+    Went 1 i (term r a i) (getD r i nan) (j + 1) (acc ⊞ getD a j nan ⊠ getD r (i - j) nan)
 unfolding term
-more r a i j acc h w = went-more 1 i (term r a i) (getD r i nan) j acc (acc ⊞ getD a j nan ⊠ getD r (i - j) nan) h refl w
+more r a i j acc h w = went-more 1 i (term r a i) (getD r i nan) j acc (term r a i j acc) h refl w
 
-all : (r a : List Float) (i j : ℕ) (acc e : Float) → i ≤ j → Went 1 i (term r a i) (getD r i nan) j acc → neg acc ⧄ e ≡ reflection r i a e
+all : (r a : List Float) (i j : ℕ) (acc e : Float) → i ≤ j → Went 1 i (term r a i) (getD r i nan) j acc →
+    neg acc ⧄ e ≡ reflection r i a e
 unfolding term reflection
 all r a i j acc e h w = ap (λ (x : Float). neg x ⧄ e) (went-all 1 i (term r a i) (getD r i nan) j acc h w)
 
@@ -41,7 +42,7 @@ reflect-spec =
     -- element-copy-out-acc
     (λ c. search needs)
     -- loop-holds
-    (λ c. went-none 1 _ (term _ _ _) _ (c .before .pre .0))
+    (λ c. search went-none)
     -- mul-acc-2
     (λ c. search needs)
     -- element-copy-out-acc-2
@@ -57,6 +58,6 @@ reflect-spec =
     -- loop-less
     (λ c. search needs)
     -- loop-again
-    (λ c. more _ _ _ _ _ (c .before .before .loop-test .taken) (c .before .before .before .loop .inv))
+    (λ c. search more)
     -- returns
-    (λ c. all _ _ _ _ _ _ (c .loop-test .left) (c .before .loop .inv)))
+    (λ c. search all))

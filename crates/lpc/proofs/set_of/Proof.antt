@@ -1,7 +1,7 @@
 -- `lpc::set_of` meets its contract: each return is one case of the definition. Assumes nothing.
-use mathlib.Core.Path.{_≡_, refl}
+use mathlib.Core.Path.{_≡_, sym}
 use mathlib.Core.Bool.{true, false}
-use mathlib.Core.List.{List, [], _∷_}
+use mathlib.Core.List.{List}
 use lib.Ieee.{Float, nan, binary32, binary64, ofBits, round, le}
 use lib.ListN.{getD, set, replicate}
 use Rattle.float.specs.Table.{table}
@@ -16,11 +16,19 @@ use borrow.Author.Needs.{needs}
 use Rattle.lpc.proofs.set_of.Statement.{statement}
 use Rattle.lpc.proofs.set_of.Tie as tie
 
-silent : (r : List Float) → le (getD r 0 nan) (ofBits binary64 0) ≡ true → _≡_ {A = LpcSet} (record { a = set (replicate 11 (ofBits binary32 0)) 0 (ofBits binary32 1065353216); r = r; k2 = ofBits binary32 0 }) (setOf r)
+-- silence, as the code writes its set
+silent : (r : List Float) → le (getD r 0 nan) (ofBits binary64 0) ≡ true →
+    setOf r ≡ record {
+      a = set (replicate 11 (ofBits binary32 0)) 0 (ofBits binary32 1065353216);
+      r = r;
+      k2 = ofBits binary32 0;
+    }
 unfolding setOf trivial single double round ofBits
 silent r e = rw e
 
-spoken : (r : List Float) (s : Recursion) (a : List Float) → le (getD r 0 nan) (ofBits binary64 0) ≡ false → s ≡ levinson r → a ≡ table 11 (λ i. narrow (getD (s .a) i nan)) → _≡_ {A = LpcSet} (record { a = a; r = r; k2 = s .k2 }) (setOf r)
+spoken : (r : List Float) (s : Recursion) (a : List Float) → le (getD r 0 nan) (ofBits binary64 0) ≡ false →
+    s ≡ levinson r → a ≡ table 11 (λ i. narrow (getD (s .a) i nan)) →
+    _≡_ {A = LpcSet} (record { a = a; r = r; k2 = s .k2 }) (setOf r)
 unfolding setOf predicted double round ofBits
 spoken r s a e f g = rw (e, ← f, g)
 
@@ -33,10 +41,10 @@ set-of-spec =
     -- array-write-a
     (λ c. search needs)
     -- returns
-    (λ c. silent _ (c .if1 .taken))
+    (λ c. sym (search silent))
     -- levinson-requires
     (λ c κs. search needs)
     -- narrowed-requires
     (λ c κs. search needs)
     -- returns-2
-    (λ c. spoken _ _ _ (c .before .before .before .before .if1 .left) (c .before .before .levinson .ensures) (c .narrowed .ensures)))
+    (λ c. search spoken))

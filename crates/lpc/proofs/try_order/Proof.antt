@@ -1,5 +1,5 @@
 -- `lpc::try_order` meets its contract: each return is one case of the definition. Assumes nothing.
-use mathlib.Core.Path.{_≡_, refl, sym, _∙_}
+use mathlib.Core.Path.{_≡_, sym, _∙_}
 use mathlib.Core.Bool.{Bool, true, false, cond}
 use mathlib.Core.List.{List}
 use Prim.Native.Nat.{ℕ}
@@ -13,28 +13,38 @@ use borrow.Author.Needs.{needs}
 use Rattle.lpc.proofs.try_order.Statement.{statement}
 use Rattle.lpc.proofs.try_order.Tie as tie
 
+-- the recursion has stopped before this order
 stays : (r : List Float) (i : ℕ) (s : Recursion) → s .stopped ≡ true → s ≡ order r i s
 unfolding order
 stays r i s e = rw e
 
-goes : (r : List Float) (i : ℕ) (s : Recursion) (k : Float) (b : Bool) (a : List Float) (q : Float) → s .stopped ≡ false → k ≡ reflection r i (s .a) (s .error) → b ≡ inside k → b ≡ true → a ≡ raised i k (s .a) → q ≡ cond (eqb i 2) (narrow k) (s .k2) → _≡_ {A = Recursion} (record { a = a; error = s .error ⊠ (ofBits binary64 4607182418800017408 ⊟ k ⊠ k); k2 = q; stopped = le (s .error ⊠ (ofBits binary64 4607182418800017408 ⊟ k ⊠ k)) (ofBits binary64 0) }) (order r i s)
-unfolding order tried advanced double round ofBits
-goes r i s k b a q n e f t g h =
-    let u : inside k ≡ true = sym f ∙ t in
-    rw (n, ← e, u, g, h)
+-- it has not, and k is this order's reflection, with b the answer to the test of it
+module _ (r : List Float) (i : ℕ) (s : Recursion) (k : Float) (b : Bool) (n : s .stopped ≡ false)
+    (e : k ≡ reflection r i (s .a) (s .error)) (f : b ≡ inside k) where
+  -- the error that is left, as the code writes it
+  abbrev left : Float
+  left = s .error ⊠ (ofBits binary64 4607182418800017408 ⊟ k ⊠ k)
 
-stops : (r : List Float) (i : ℕ) (s : Recursion) (k : Float) (b : Bool) → s .stopped ≡ false → k ≡ reflection r i (s .a) (s .error) → b ≡ inside k → b ≡ false → _≡_ {A = Recursion} (record { a = s .a; error = s .error; k2 = s .k2; stopped = true }) (order r i s)
-unfolding order tried
-stops r i s k b n e f t =
-    let u : inside k ≡ false = sym f ∙ t in
-    rw (n, ← e, u)
+  goes : (a : List Float) (q : Float) → b ≡ true → a ≡ raised i k (s .a) → q ≡ cond (eqb i 2) (narrow k) (s .k2) →
+      _≡_ {A = Recursion} (record { a = a; error = left; k2 = q; stopped = le left (ofBits binary64 0) }) (order r i s)
+  unfolding order tried advanced double round ofBits
+  goes a q t g h =
+      let u : inside k ≡ true = sym f ∙ t in
+      rw (n, ← e, u, g, h)
+
+  stops : b ≡ false →
+      _≡_ {A = Recursion} (record { a = s .a; error = s .error; k2 = s .k2; stopped = true }) (order r i s)
+  unfolding order tried
+  stops t =
+      let u : inside k ≡ false = sym f ∙ t in
+      rw (n, ← e, u)
 
 pub try-order-spec : {M : Type 1} → statement M
 try-order-spec =
     tie.close
     (tie.spec
     -- returns
-    (λ c. stays _ _ _ (c .if1 .taken))
+    (λ c. search stays)
     -- reflect-requires
     (λ c κs. search needs)
     -- is-inside-requires
@@ -44,6 +54,6 @@ try-order-spec =
     -- second-requires
     (λ c κs. search needs)
     -- returns-2
-    (λ c. goes _ _ _ _ _ _ _ (c .before .before .before .before .before .before .before .if1 .left) (c .before .before .before .before .reflect .ensures) (c .before .before .before .is-inside .ensures) (c .before .before .if2 .taken) (c .before .raise .ensures) (c .second .ensures))
+    (λ c. search goes)
     -- returns-3
-    (λ c. stops _ _ _ _ _ (c .before .before .before .before .before .if1 .left) (c .before .before .reflect .ensures) (c .before .is-inside .ensures) (c .if2 .left)))
+    (λ c. search stops))

@@ -50,6 +50,6 @@ difference-side-spec =
     -- loop-less
     (λ c. search needs)
     -- loop-again
-    (λ c. series-more _ _ _ _ _ (c .before .before .loop-test .taken) (turn _ _ _) (c .before .before .before .loop .inv))
+    (λ c. search (series-more, turn))
     -- returns
-    (λ c. series-all _ _ _ _ (c .loop-test .left) (c .before .loop .inv)))
+    (λ c. search series-all))

@@ -1,5 +1,5 @@
 -- `lsp::factors` meets its contract: up to m the array holds the factors. Assumes nothing.
-use mathlib.Core.Path.{_≡_, refl, sym, ap, _∙_}
+use mathlib.Core.Path.{_≡_, refl}
 use mathlib.Core.List.{List}
 use Prim.Native.Nat.{ℕ, _-_, _≤_}
 use borrow.Author.Tests.{ne-eqb}
@@ -20,11 +20,13 @@ Inv-loop f c₀ m₀ c m = Filled 6 (factor f) m c × (1 ≤ m)
 abbrev μ-loop : tie.MeasureT-loop
 μ-loop f c₀ m₀ c m = 6 - m
 
-first : (f : List Float) (v : Float) → v ≡ getD f 5 nan → Filled 6 (factor f) 1 (set (replicate 6 (ofBits binary64 0)) 0 (v ⊠ ofBits binary64 4602678819172646912))
+first : (f : List Float) (v : Float) → v ≡ getD f 5 nan →
+    Filled 6 (factor f) 1 (set (replicate 6 (ofBits binary64 0)) 0 (v ⊠ ofBits binary64 4602678819172646912))
 unfolding factor double round ofBits
 first f v e =
-    filled-more 6 (factor f) 0 (replicate 6 (ofBits binary64 0)) (v ⊠ ofBits binary64 4602678819172646912) (lit< tt) (rw e)
-    (filled-none 6 (factor f) (replicate 6 (ofBits binary64 0)) refl)
+    let zeros = replicate 6 (ofBits binary64 0) in
+    filled-more 6 (factor f) 0 zeros (v ⊠ ofBits binary64 4602678819172646912) (lit< tt) (rw e)
+    (filled-none 6 (factor f) zeros refl)
 
 -- what one turn stores
 turn : (f : List Float) (m : ℕ) (v : Float) → 1 ≤ m → v ≡ getD f (5 - m) nan → v ≡ factor f m
@@ -46,7 +48,7 @@ factors-spec =
     -- array-write-c
     (λ c. search needs)
     -- loop-holds
-    (λ c. (first _ _ (c .f32-to-f64-with-nan .ensures), search needs))
+    (λ c. search (first, needs))
     -- sub-f32-to-f64-with-nan
     (λ c. search needs)
     -- mul-f32-to-f64-with-nan
@@ -64,6 +66,6 @@ factors-spec =
     -- loop-less
     (λ c. search needs)
     -- loop-again
-    (λ c. (filled-more 6 _ _ _ _ (search needs) (turn _ _ _ (c .before .before .before .loop .inv .1) (c .f32-to-f64-with-nan2 .ensures)) (c .before .before .before .loop .inv .0), search needs))
+    (λ c. search (filled-more, turn, needs))
     -- returns
-    (λ c. filled-all 6 _ _ _ (c .loop-test .left) (c .before .loop .inv .0)))
+    (λ c. search filled-all))

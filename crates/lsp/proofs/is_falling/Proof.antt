@@ -1,5 +1,5 @@
 -- `lsp::is_falling` meets its contract: up to k each is less than the one before it. Assumes nothing.
-use mathlib.Core.Path.{_≡_, refl, ap}
+use mathlib.Core.Path.{_≡_, refl}
 use mathlib.Core.Bool.{Bool, true, _&&_}
 use mathlib.Core.List.{List}
 use Prim.Native.Nat.{ℕ, suc, _+_, _-_, _≤_, _<_}
@@ -27,11 +27,13 @@ none : (x : List Float) → Holding x 1 true
 unfolding falling
 none x = record { least = lit≤ tt; most = lit≤ tt; so-far = refl }
 
-one-more : (x : List Float) (n : ℕ) (falls : Bool) → falls ≡ falling n x → falls && lt (getD x (suc n) nan) (getD x n nan) ≡ falling (suc n) x
+one-more : (x : List Float) (n : ℕ) (falls : Bool) → falls ≡ falling n x →
+    falls && lt (getD x (suc n) nan) (getD x n nan) ≡ falling (suc n) x
 unfolding falling
 one-more x n falls e = rw e
 
-more : (x : List Float) (k : ℕ) (falls : Bool) → k < 10 → Holding x k falls → Holding x (k + 1) (falls && lt (getD x k nan) (getD x (k - 1) nan))
+more : (x : List Float) (k : ℕ) (falls : Bool) → k < 10 → Holding x k falls →
+    Holding x (k + 1) (falls && lt (getD x k nan) (getD x (k - 1) nan))
 more x k falls h r =
     let s : suc (k - 1) ≡ k = omega (arith, r .least) in
     let t : k + 1 - 1 ≡ k = omega arith in
@@ -65,6 +67,6 @@ is-falling-spec =
     -- loop-less
     (λ c. search needs)
     -- loop-again
-    (λ c. more _ _ _ (c .before .before .loop-test .taken) (c .before .before .before .loop .inv))
+    (λ c. search more)
     -- returns
-    (λ c. all _ _ _ (c .loop-test .left) (c .before .loop .inv)))
+    (λ c. search all))

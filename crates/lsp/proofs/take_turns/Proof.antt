@@ -1,11 +1,11 @@
 -- `lsp::take_turns` meets its contract: after k turns the first 2k places are filled. Assumes nothing.
-use mathlib.Core.Path.{_≡_, refl, subst}
+use mathlib.Core.Path.{_≡_, refl}
 use mathlib.Core.List.{List}
 use Prim.Native.Nat.{ℕ, _+_, _-_, _*_, _/_, _%_, _≤_, _<_}
 use native.Mathlib.Omega.{arith}
-use lib.Dec.{eqb}
 use lib.Ieee.{Float, nan}
 use lib.ListN.{getD, set}
+use Rattle.float.specs.Table.{table}
 use Rattle.float.proofs.Table.{Filled, filled-none, filled-more, filled-all}
 use Rattle.lsp.specs.Pairs.{inTurn}
 use borrow.Author.Needs.{needs}
@@ -32,12 +32,16 @@ odd p q k =
     let d : (2 * k + 1) / 2 ≡ k = omega arith in
     rw (r, d)
 
-more : (p q out : List Float) (k : ℕ) → k < 5 → Filled 10 (inTurn p q) (2 * k) out → Filled 10 (inTurn p q) (2 * (k + 1)) (set (set out (2 * k) (getD p k nan)) (2 * k + 1) (getD q k nan))
+more : (p q out : List Float) (k : ℕ) → k < 5 → Filled 10 (inTurn p q) (2 * k) out →
+    Filled 10 (inTurn p q) (2 * (k + 1)) (set (set out (2 * k) (getD p k nan)) (2 * k + 1) (getD q k nan))
 more p q out k h r =
     let e : 2 * k + 1 + 1 ≡ 2 * (k + 1) = omega arith in
     rw e at
     (filled-more 10 (inTurn p q) (2 * k + 1) (set out (2 * k) (getD p k nan)) (getD q k nan) (omega arith) (odd p q k)
     (filled-more 10 (inTurn p q) (2 * k) out (getD p k nan) (omega arith) (even p q k) r))
+
+all : (p q out : List Float) (k : ℕ) → 5 ≤ k → Filled 10 (inTurn p q) (2 * k) out → out ≡ table 10 (inTurn p q)
+all p q out k h r = filled-all 10 (inTurn p q) (2 * k) out (omega arith) r
 
 pub take-turns-spec : {M : Type 1} → statement M
 take-turns-spec =
@@ -74,6 +78,6 @@ take-turns-spec =
     -- loop-less
     (λ c. search needs)
     -- loop-again
-    (λ c. (more _ _ _ _ (c .loop-test .taken) (c .before .loop .inv .0), search needs))
+    (λ c. search (more, needs))
     -- returns
-    (λ c. filled-all 10 _ _ _ (omega arith) (c .before .loop .inv .0)))
+    (λ c. search all))

@@ -1,8 +1,7 @@
 -- `lsp_filter::side_of` meets its contract: up to k the quadratics have been multiplied. Assumes nothing.
-use mathlib.Core.Path.{_≡_, refl}
-use mathlib.Core.List.{List, [], _∷_}
+use mathlib.Core.Path.{_≡_}
+use mathlib.Core.List.{List, _∷_}
 use Prim.Native.Nat.{ℕ, zero-le, _+_, _-_, _*_, _≤_, _<_}
-use native.Mathlib.Omega.{arith}
 use lib.Ieee.{Float, nan, binary32, ofBits, round}
 use lib.ListN.{getD, set, replicate}
 use Rattle.float.specs.Single.{single}
@@ -24,13 +23,16 @@ Inv-loop lsp s p₀ k₀ p k = Went 0 5 (turn lsp s) one k p
 abbrev μ-loop : tie.MeasureT-loop
 μ-loop lsp s p₀ k₀ p k = 5 - k
 
-begin : (lsp : List Float) (s : ℕ) → Went 0 5 (turn lsp s) one 0 (set (replicate 11 (ofBits binary32 0)) 0 (ofBits binary32 1065353216))
+begin : (lsp : List Float) (s : ℕ) →
+    Went 0 5 (turn lsp s) one 0 (set (replicate 11 (ofBits binary32 0)) 0 (ofBits binary32 1065353216))
 unfolding one single round ofBits
 begin lsp s = went-none 0 5 (turn lsp s) one zero-le
 
-more : (lsp : List Float) (s k : ℕ) (p t : List Float) → k < 5 → t ≡ quadratic (2 * k + 2) (getD lsp (2 * k + s) nan) p → Went 0 5 (turn lsp s) one k p → Went 0 5 (turn lsp s) one (k + 1) t
+more : (lsp : List Float) (s : ℕ) {k : ℕ} {p t : List Float} → k < 5 →
+    t ≡ quadratic (2 * k + 2) (getD lsp (2 * k + s) nan) p →
+    Went 0 5 (turn lsp s) one k p → Went 0 5 (turn lsp s) one (k + 1) t
 unfolding turn
-more lsp s k p t h e w = went-more 0 5 (turn lsp s) one k p t h e w
+more lsp s {k} {p} {t} h e w = went-more 0 5 (turn lsp s) one k p t h e w
 
 all : (lsp : List Float) (s k : ℕ) (p : List Float) → 5 ≤ k → Went 0 5 (turn lsp s) one k p → p ≡ side lsp s
 unfolding turn one side
@@ -45,7 +47,7 @@ side-of-spec =
     -- array-write-p
     (λ c. search needs)
     -- loop-holds
-    (λ c. begin _ _)
+    (λ c. search begin)
     -- mul-times-quadratic
     (λ c. search needs)
     -- add-times-quadratic
@@ -59,12 +61,12 @@ side-of-spec =
     -- element-copy-out-times-quadratic
     (λ c. search needs)
     -- times-quadratic-requires
-    (λ c κs. (search needs, omega arith))
+    (λ c κs. search needs)
     -- add-k
     (λ c. search needs)
     -- loop-less
     (λ c. search needs)
     -- loop-again
-    (λ c. more _ _ _ _ _ (c .before .before .loop-test .taken) (c .times-quadratic .ensures) (c .before .before .before .loop .inv))
+    (λ c. more _ _ (search needs) (c .times-quadratic .ensures) (search))
     -- returns
-    (λ c. all _ _ _ _ (c .loop-test .left) (c .before .loop .inv)))
+    (λ c. search all))

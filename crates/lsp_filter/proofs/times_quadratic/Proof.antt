@@ -1,4 +1,5 @@
--- `lsp_filter::times_quadratic` meets its contract: the places above i are new and those up to i are old, so that each new one is made of old ones. Assumes nothing.
+-- `lsp_filter::times_quadratic` meets its contract: the places above i are new and those up to i are old, so that
+-- each new one is made of old ones. Assumes nothing.
 use Rattle.lsp_filter.proofs.InPlace.{Lowered, lowered-none, lowered-more, lowered-all}
 use borrow.Author.Needs.{needs}
 use Rattle.lsp_filter.proofs.times_quadratic.Statement.{statement}
@@ -17,7 +18,7 @@ times-quadratic-spec =
     Inv-loop
     μ-loop
     -- loop-holds
-    (λ c. lowered-none _ _ _ (c .good .1 .1 .0 .1 .0 .1) (c .pre .0) (c .pre .1))
+    (λ c. search (lowered-none, needs))
     -- mul-out
     (λ c. search needs)
     -- array-read-out
@@ -41,7 +42,7 @@ times-quadratic-spec =
     -- loop-less
     (λ c. search needs)
     -- loop-again
-    (λ c. lowered-more _ _ _ _ _ (c .loop-test .taken) (c .before .loop .inv))
+    (λ c. search lowered-more)
     -- array-read-out-4
     (λ c. search needs)
     -- array-read-out-5
@@ -49,4 +50,4 @@ times-quadratic-spec =
     -- array-write-out-2
     (λ c. search needs)
     -- returns
-    (λ c. lowered-all _ _ _ _ _ (c .loop-test .left) (c .before .loop .inv)))
+    (λ c. search lowered-all))

@@ -19,7 +19,9 @@ abbrev μ-loop : tie.MeasureT-loop
 μ-loop choice prev cur previous current lsp₀ i₀ lsp i = 10 - i
 
 -- what one turn stores
-turn : (choice : ℕ) (w : Weights) (prev cur : List Float) (i : ℕ) → w ≡ record { previous = previousWeight choice; current = currentWeight choice } → w .previous ⊗ getD prev i nan ⊕ w .current ⊗ getD cur i nan ≡ weighed choice prev cur i
+turn : (choice : ℕ) (w : Weights) (prev cur : List Float) (i : ℕ) →
+    w ≡ record { previous = previousWeight choice; current = currentWeight choice } →
+    w .previous ⊗ getD prev i nan ⊕ w .current ⊗ getD cur i nan ≡ weighed choice prev cur i
 unfolding weighed
 turn choice w prev cur i e = ap (λ (v : Weights). v .previous ⊗ getD prev i nan ⊕ v .current ⊗ getD cur i nan) e
 
@@ -50,6 +52,6 @@ weigh-spec =
     -- loop-less
     (λ c. search needs)
     -- loop-again
-    (λ c. filled-more 10 _ _ _ _ (search needs) (turn _ _ _ _ _ (c .before .before .before .before .weighing .ensures)) (c .before .before .before .loop .inv))
+    (λ c. search (filled-more, turn))
     -- returns
-    (λ c. filled-all 10 _ _ _ (c .loop-test .left) (c .before .loop .inv)))
+    (λ c. search filled-all))

@@ -1,8 +1,7 @@
 -- `pitch::settle` meets its contract: each answer is the definition's at the tests that led to it. Assumes nothing.
 use borrow.Author.Needs.{needs}
-use borrow.Author.Tests.{not-true, not-false}
-use mathlib.Core.Path.{_≡_, refl, sym, ap, _∙_}
-use mathlib.Core.Bool.{true, false}
+use mathlib.Core.Path.{_≡_, sym, _∙_}
+use mathlib.Core.Bool.{Bool, true, false, not}
 use lib.Ieee.{Float, le, round, ofBits}
 use Rattle.float.specs.Double.{double}
 use Rattle.lags.specs.declared.Best.{Best}
@@ -13,21 +12,23 @@ use Rattle.pitch.proofs.settle.Statement.{statement}
 use Rattle.pitch.proofs.settle.Tie as tie
 
 module _ (s : Best) (e g : Float) (r : HnsParams) where
-  none : r ≡ shapingOff → s .found ≡ false → r ≡ settled s e g
+  none : not (s .found) ≡ true → r ≡ shapingOff → r ≡ settled s e g
   unfolding settled
-  none q h = rw h q
+  none h q = rw h q
 
-  no-energy : r ≡ shapingOff → s .found ≡ true → le e (double 0 1) ≡ true → r ≡ settled s e g
+  no-energy : not (s .found) ≡ false → le e (double 0 1) ≡ true → r ≡ shapingOff → r ≡ settled s e g
   unfolding settled
-  no-energy q h l = rw (h, l) q
+  no-energy h l q = rw (h, l) q
 
-  failed : r ≡ shapingOff → s .found ≡ true → le e (double 0 1) ≡ false → passes (s .ratio) e ≡ false → r ≡ settled s e g
-  unfolding settled
-  failed q h l t = rw (h, l, t) q
+  -- t is what `gate` answered
+  module _ (t : Bool) (h : not (s .found) ≡ false) (l : le e (double 0 1) ≡ false) (p : t ≡ passes (s .ratio) e) where
+    failed : not t ≡ true → r ≡ shapingOff → r ≡ settled s e g
+    unfolding settled
+    failed n q = rw (h, l, ← p, n) q
 
-  on : s .found ≡ true → le e (double 0 1) ≡ false → passes (s .ratio) e ≡ true → r ≡ record { lag = s .lag; beta = factor g } → r ≡ settled s e g
-  unfolding settled
-  on h l t q = rw (h, l, t) q
+    on : not t ≡ false → (b : Float) → b ≡ factor g → r ≡ record { lag = s .lag; beta = b } → r ≡ settled s e g
+    unfolding settled
+    on n b f q = rw (h, l, ← p, n, ← f) q
 
 pub settle-spec : {M : Type 1} → statement M
 unfolding double round ofBits
@@ -37,18 +38,18 @@ settle-spec =
     -- off-requires
     (λ c κs. search needs)
     -- returns
-    (λ c. none _ _ _ _ (c .off .ensures) (not-true _ (c .before .if1 .taken)))
+    (λ c. search none)
     -- off-requires-2
     (λ c κs. search needs)
     -- returns-2
-    (λ c. no-energy _ _ _ _ (c .off2 .ensures) (not-false _ (c .before .before .if1 .left)) (c .before .if2 .taken))
+    (λ c. search no-energy)
     -- gate-requires
     (λ c κs. search needs)
     -- off-requires-3
     (λ c κs. search needs)
     -- returns-3
-    (λ c. failed _ _ _ _ (c .off3 .ensures) (not-false _ (c .before .before .before .before .if1 .left)) (c .before .before .before .if2 .left) (sym (c .before .before .gate .ensures) ∙ not-true _ (c .before .if3 .taken)))
+    (λ c. search failed)
     -- beta-of-requires
     (λ c κs. search needs)
     -- returns-4
-    (λ c. on _ _ _ _ (not-false _ (c .before .before .before .before .if1 .left)) (c .before .before .before .if2 .left) (sym (c .before .before .gate .ensures) ∙ not-false _ (c .before .if3 .left)) (rw (c .beta-of .ensures))))
+    (λ c. search on))

@@ -2,7 +2,7 @@
 use borrow.Author.Needs.{needs}
 use mathlib.Core.Path.{_≡_, refl, sym, ap, _∙_, subst}
 use mathlib.Core.Bool.{true}
-use mathlib.Core.List.{List}
+use mathlib.Core.List.{List, map}
 use Prim.Native.Nat.{ℕ, _-_, _<_, _≤_, _^_}
 use lib.Dec.{T}
 use lib.Ieee.{Float, nan}
@@ -27,8 +27,16 @@ abbrev μ-loop : tie.MeasureT-loop
 μ-loop t cosines out₀ i₀ out i = 10 - i
 
 -- a step that has an angle
-counted : (cosines : List Float) (i k : ℕ) → all finite cosines ≡ true → i < length cosines → k ≡ step (held (at cosines i)) → k ≤ 2 ^ 24
+counted : (cosines : List Float) (i k : ℕ) → all finite cosines ≡ true → i < length cosines →
+    k ≡ step (held (at cosines i)) → k ≤ 2 ^ 24
 counted cosines i k h l e = rw e (step-held (at cosines i) (all-at finite cosines (subst T (sym h) tt) i nan l) .1)
+
+found : (x r : Float) (k : ℕ) → k ≡ step (held x) → r ≡ angle k → r ≡ angleOf x
+found x r k e f = f ∙ ap angle e
+
+done : (cosines out : List Float) (i : ℕ) → length cosines ≡ 10 → 10 ≤ i →
+    Filled 10 (λ k. angleOf (at cosines k)) i out → out ≡ map angleOf cosines
+done cosines out i l h r = filled-map angleOf cosines nan 10 i out l h r
 
 pub angles-of-spec : {M : Type 1} → statement M
 angles-of-spec =
@@ -45,7 +53,7 @@ angles-of-spec =
     -- step-requires
     (λ c κs. search needs)
     -- angle-requires
-    (λ c κs. counted _ _ _ (c .before .before .before .pre .1) (search needs) (c .step .ensures))
+    (λ c κs. search (counted, needs))
     -- mul-out
     (λ c. search needs)
     -- array-write-out
@@ -55,6 +63,6 @@ angles-of-spec =
     -- loop-less
     (λ c. search needs)
     -- loop-again
-    (λ c. filled-more 10 _ _ _ _ (c .before .before .loop-test .taken) (c .angle .ensures ∙ ap angle (c .before .step .ensures)) (c .before .before .before .loop .inv))
+    (λ c. search (filled-more, found))
     -- returns
-    (λ c. filled-map angleOf (c .before .before .args .t2) nan 10 _ _ (search needs) (c .loop-test .left) (c .before .loop .inv)))
+    (λ c. search (done, needs)))

@@ -1,7 +1,7 @@
 -- `stability::clamp` meets its contract. Assumes nothing.
 use borrow.Author.Needs.{needs}
-use mathlib.Core.Path.{_≡_, _∙_}
-use mathlib.Core.Bool.{Bool, true, false, cond}
+use mathlib.Core.Path.{_≡_}
+use mathlib.Core.Bool.{true, false}
 use mathlib.Core.List.{List}
 use mathlib.Core.Logic.{⊎-elim}
 use lib.ListN.{set}
@@ -12,14 +12,26 @@ use Rattle.stability.specs.Clamps.{margin, raised, lowered, clamped}
 use Rattle.stability.proofs.clamp.Statement.{statement}
 use Rattle.stability.proofs.clamp.Tie as tie
 
--- the first angle by its test, then the last one
-first : (delta m : Float) (ω ω' : List Float) (t : Bool) → m ≡ margin delta → lt (at ω 0) m ≡ t → ω' ≡ cond t (set ω 0 m) ω → ω' ≡ raised 0 (margin delta) ω
-unfolding raised
-first delta m ω ω' t e h f = f ∙ rw (← h, e)
+-- the first angle, raised or kept, then the last one, lowered or kept
+module _ (delta m : Float) (ω ω' : List Float) (e : m ≡ margin delta) where
+  first-raised : lt (at ω 0) m ≡ true → ω' ≡ set ω 0 m → ω' ≡ raised 0 (margin delta) ω
+  unfolding raised
+  first-raised h f = rw (← e, h) f
 
-last : (delta m : Float) (ω ω' : List Float) (t : Bool) → m ≡ margin delta → ω' ≡ raised 0 (margin delta) ω → lt (ofBits binary32 1078530011 ⊖ m) (at ω' 9) ≡ t → cond t (set ω' 9 (ofBits binary32 1078530011 ⊖ m)) ω' ≡ clamped delta ω
-unfolding clamped lowered single round ofBits
-last delta m ω ω' t e h f = rw (← f, ← h, ← e)
+  first-kept : lt (at ω 0) m ≡ false → ω' ≡ ω → ω' ≡ raised 0 (margin delta) ω
+  unfolding raised
+  first-kept h f = rw (← e, h) f
+
+  abbrev most : Float
+  most = ofBits binary32 1078530011 ⊖ m
+
+  last-lowered : ω' ≡ raised 0 (margin delta) ω → lt most (at ω' 9) ≡ true → set ω' 9 most ≡ clamped delta ω
+  unfolding clamped lowered single round ofBits
+  last-lowered f h = rw (← f, ← e, h)
+
+  last-kept : ω' ≡ raised 0 (margin delta) ω → lt most (at ω' 9) ≡ false → ω' ≡ clamped delta ω
+  unfolding clamped lowered single round ofBits
+  last-kept f h = rw (← f, ← e, h)
 
 pub clamp-spec : {M : Type 1} → statement M
 clamp-spec =
@@ -36,12 +48,12 @@ clamp-spec =
     -- array-write-omega-2
     (λ c. search needs)
     -- returns
-    (λ c. last _ _ _ _ true (c .before .before .margin .ensures) (⊎-elim
-    (λ w. first _ _ _ _ true (c .before .before .margin .ensures) (w .0 .taken) (w .1))
-    (λ w. first _ _ _ _ false (c .before .before .margin .ensures) (w .0 .left) (w .1))
-    (c .before .if1 .came)) (c .if2 .taken))
+    (λ c. ⊎-elim
+    (λ w. search (last-lowered, first-raised))
+    (λ w. search (last-lowered, first-kept))
+    (c .before .if1 .came))
     -- returns-2
-    (λ c. last _ _ _ _ false (c .before .before .margin .ensures) (⊎-elim
-    (λ w. first _ _ _ _ true (c .before .before .margin .ensures) (w .0 .taken) (w .1))
-    (λ w. first _ _ _ _ false (c .before .before .margin .ensures) (w .0 .left) (w .1))
-    (c .before .if1 .came)) (c .if2 .left)))
+    (λ c. ⊎-elim
+    (λ w. search (last-kept, first-raised))
+    (λ w. search (last-kept, first-kept))
+    (c .before .if1 .came)))

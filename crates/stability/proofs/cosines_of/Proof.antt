@@ -1,14 +1,18 @@
 -- `stability::cosines_of` meets its contract: after i turns the first i cosines stand. Assumes nothing.
 use borrow.Author.Needs.{needs}
-use mathlib.Core.Path.{refl, ap, _∙_}
-use Prim.Native.Nat.{_-_}
-use lib.Ieee.{nan}
+use mathlib.Core.Path.{_≡_, refl, ap, _∙_}
+use mathlib.Core.Bool.{false}
+use mathlib.Core.List.{List, map}
+use Prim.Native.Nat.{ℕ, _-_, _<_, _≤_}
+use lib.ListN.{length}
+use lib.Ieee.{Float, nan}
 use Rattle.float.specs.Vector.{at}
-use Rattle.float.specs.Finite.{power, exceeds}
+use Rattle.float.specs.Finite.{power, exceeds, anyExceeds}
 use Rattle.float.proofs.Any.{any-at}
 use Rattle.float.proofs.Mapped.{filled-map}
 use Rattle.float.proofs.Table.{Filled, filled-none, filled-more}
 use Rattle.cosine.specs.Cosine.{cosineSingle}
+use Rattle.cosine.specs.Angle.{stepOfAngle}
 use Rattle.stability.specs.Stability.{cosineOf}
 use Rattle.stability.proofs.cosines_of.Statement.{statement}
 use Rattle.stability.proofs.cosines_of.Tie as tie
@@ -18,6 +22,18 @@ Inv-loop t angles out₀ i₀ out i = Filled 10 (λ k. cosineOf (at angles k)) i
 
 abbrev μ-loop : tie.MeasureT-loop
 μ-loop t angles out₀ i₀ out i = 10 - i
+
+-- each angle is within the bound of its step
+near : (angles : List Float) (i : ℕ) → anyExceeds (power 4) angles ≡ false → i < length angles →
+    exceeds (power 4) (at angles i) ≡ false
+near angles i h l = any-at (exceeds (power 4)) angles h i nan l
+
+found : (a r : Float) (k : ℕ) → k ≡ stepOfAngle a → r ≡ cosineSingle k → r ≡ cosineOf a
+found a r k e f = f ∙ ap cosineSingle e
+
+done : (angles out : List Float) (i : ℕ) → length angles ≡ 10 → 10 ≤ i →
+    Filled 10 (λ k. cosineOf (at angles k)) i out → out ≡ map cosineOf angles
+done angles out i l h r = filled-map cosineOf angles nan 10 i out l h r
 
 pub cosines-of-spec : {M : Type 1} → statement M
 cosines-of-spec =
@@ -32,7 +48,7 @@ cosines-of-spec =
     -- array-read-step-of-angle
     (λ c. search needs)
     -- step-of-angle-requires
-    (λ c κs. any-at (exceeds (power 4)) _ (c .before .before .pre .1) _ _ (search needs))
+    (λ c κs. search (near, needs))
     -- cosine-single-requires
     (λ c κs. search needs)
     -- mul-out
@@ -44,6 +60,6 @@ cosines-of-spec =
     -- loop-less
     (λ c. search needs)
     -- loop-again
-    (λ c. filled-more 10 _ _ _ _ (c .before .before .loop-test .taken) (c .cosine-single .ensures ∙ ap cosineSingle (c .before .step-of-angle .ensures)) (c .before .before .before .loop .inv))
+    (λ c. search (filled-more, found))
     -- returns
-    (λ c. filled-map cosineOf (c .before .before .args .t2) nan 10 _ _ (search needs) (c .loop-test .left) (c .before .loop .inv)))
+    (λ c. search (done, needs)))

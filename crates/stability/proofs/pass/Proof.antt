@@ -1,7 +1,7 @@
 -- `stability::pass` meets its contract: after j turns the state is that of the first j pairs. Assumes nothing.
 use borrow.Author.Needs.{needs}
-use mathlib.Core.Path.{_≡_, _∙_}
-use mathlib.Core.Bool.{Bool, true, false, cond}
+use mathlib.Core.Path.{_≡_}
+use mathlib.Core.Bool.{Bool, true, false}
 use mathlib.Core.List.{List}
 use mathlib.Core.Logic.{⊎-elim}
 use Prim.Native.Nat.{ℕ, _+_, _-_, _<_, zero-le}
@@ -21,7 +21,8 @@ abbrev state : List Float → Bool → Settled
 state ω b = record { angles = ω; converged = b }
 
 abbrev Inv-loop : tie.InvT-loop
-Inv-loop delta half tol omega₀ converged₀ j₀ omega converged j = Went 0 9 (spread delta) (state omega₀ true) j (state omega converged)
+Inv-loop delta half tol omega₀ converged₀ j₀ omega converged j =
+    Went 0 9 (spread delta) (state omega₀ true) j (state omega converged)
 
 abbrev μ-loop : tie.MeasureT-loop
 μ-loop delta half tol omega₀ converged₀ j₀ omega converged j = 9 - j
@@ -43,14 +44,21 @@ same-move : (delta : Float) (ω : List Float) (j : ℕ) → moved delta ω j ≡
 unfolding apart half single round ofBits
 same-move delta ω j = rw add-one
 
-both : (ω ω' : List Float) (b b' : Bool) → ω' ≡ ω → b' ≡ b → state ω' b' ≡ state ω b
-both ω ω' b b' e f = rw (e, f)
+-- a turn that moved its pair, and one that met none too close
+abbrev Done : Float → List Float → ℕ → Settled → Type 0
+Done delta ω₀ j s = Went 0 9 (spread delta) (state ω₀ true) j s
 
--- one turn, by what the test says
-turn : (delta : Float) (ω₀ ω ω' : List Float) (b b' : Bool) (j : ℕ) (t : Bool) → j < 9 → tested delta ω j ≡ t → state ω' b' ≡ cond t (state (moved delta ω j) false) (state ω b) →
-    Went 0 9 (spread delta) (state ω₀ true) j (state ω b) → Went 0 9 (spread delta) (state ω₀ true) (j + 1) (state ω' b')
-unfolding spread
-turn delta ω₀ ω ω' b b' j t h e f r = went-more 0 9 (spread delta) (state ω₀ true) j (state ω b) (state ω' b') h (f ∙ rw (← e, same-test, same-move)) r
+module _ (delta : Float) (ω₀ ω ω' : List Float) (b b' : Bool) (j : ℕ) (h : j < 9)
+    (r : Done delta ω₀ j (state ω b)) where
+  parted : tested delta ω j ≡ true → ω' ≡ moved delta ω j → b' ≡ false → Done delta ω₀ (j + 1) (state ω' b')
+  unfolding spread
+  parted e f g =
+      went-more 0 9 (spread delta) (state ω₀ true) j (state ω b) (state ω' b') h (rw (f, g, ← same-test, e, same-move)) r
+
+  kept : tested delta ω j ≡ false → ω' ≡ ω → b' ≡ b → Done delta ω₀ (j + 1) (state ω' b')
+  unfolding spread
+  kept e f g =
+      went-more 0 9 (spread delta) (state ω₀ true) j (state ω b) (state ω' b') h (rw (f, g, ← same-test, e)) r
 
 pub pass-spec : {M : Type 1} → statement M
 unfolding pass
@@ -96,9 +104,6 @@ pass-spec =
     -- loop-less
     (λ c. search needs)
     -- loop-again
-    (λ c. ⊎-elim
-    (λ w. turn _ _ _ _ _ _ _ true (c .before .loop-test .taken) (w .0 .taken) (both _ _ _ _ (w .1) (w .2)) (c .before .before .loop .inv))
-    (λ w. turn _ _ _ _ _ _ _ false (c .before .loop-test .taken) (w .0 .left) (both _ _ _ _ (w .1) (w .2)) (c .before .before .loop .inv))
-    (c .if1 .came))
+    (λ c. ⊎-elim (λ w. search parted) (λ w. search kept) (c .if1 .came))
     -- returns
-    (λ c. went-all 0 9 _ _ _ _ (c .loop-test .left) (c .before .loop .inv)))
+    (λ c. search went-all))

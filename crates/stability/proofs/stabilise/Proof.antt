@@ -1,7 +1,7 @@
 -- `stability::stabilise` meets its contract: no angle is too large for exact arithmetic. Assumes nothing.
 use borrow.Author.Needs.{needs}
 use mathlib.Core.Path.{_≡_, sym, ap, _∙_, subst}
-use mathlib.Core.Bool.{Bool, true, false}
+use mathlib.Core.Bool.{true, false}
 use mathlib.Core.List.{List, map}
 use lib.Dec.{T}
 use lib.ListN.{length}
@@ -19,16 +19,23 @@ use Rattle.stability.proofs.Bounded.{stable-room}
 use Rattle.stability.proofs.stabilise.Statement.{statement}
 use Rattle.stability.proofs.stabilise.Tie as tie
 
--- what the calls make of the set and the spacing
-made : (c ω ω' : List Float) (hz delta : Float) (s : Settled) → delta ≡ spacing hz → ω ≡ map angleOf c → s ≡ settled delta ω → ω' ≡ clamped delta (s .angles) → _≡_ {A = Settled} (record { angles = ω'; converged = s .converged }) (stable (spacing hz) (map angleOf c))
-unfolding stable
-made c ω ω' hz delta s d a e f = rw (f, e, a, d)
+-- the calls, one after the other: the spacing delta, the angles ω of the cosines c, the settled s of them, and those
+-- clamped, ω'
+module _ (c ω ω' : List Float) (hz delta : Float) (s : Settled) (d : delta ≡ spacing hz) (a : ω ≡ map angleOf c)
+    (e : s ≡ settled delta ω) (f : ω' ≡ clamped delta (s .angles)) where
+  made : _≡_ {A = Settled} (record { angles = ω'; converged = s .converged }) (stable (spacing hz) (map angleOf c))
+  unfolding stable
+  made = rw (f, e, a, d)
 
-room : (c ω' : List Float) (hz : Float) (b : Bool) → length c ≡ 10 → all finite c ≡ true → finite hz ≡ true → outside hz ≡ false → _≡_ {A = Settled} (record { angles = ω'; converged = b }) (stable (spacing hz) (map angleOf c)) → anyExceeds (power 4) ω' ≡ false
-room c ω' hz b n a f o e = ap (λ (s : Settled). anyExceeds (power 4) (s .angles)) e ∙ stable-room c hz n (subst T (sym a) tt) (subst T (sym f) tt) o
+  room : length c ≡ 10 → all finite c ≡ true → finite hz ≡ true → outside hz ≡ false → anyExceeds (power 4) ω' ≡ false
+  room n p q o =
+      ap (λ (s : Settled). anyExceeds (power 4) (s .angles)) made
+      ∙ stable-room c hz n (subst T (sym p) tt) (subst T (sym q) tt) o
 
-answered : (ω' r : List Float) (b : Bool) (s : Settled) → _≡_ {A = Settled} (record { angles = ω'; converged = b }) s → r ≡ map cosineOf ω' → _≡_ {A = Stabilised} (record { status = 0; cosines = r; converged = b }) (done s)
-answered ω' r b s e h = rw h (ap done e)
+  answered : (r : List Float) → r ≡ map cosineOf ω' →
+      _≡_ {A = Stabilised} (record { status = 0; cosines = r; converged = s .converged })
+      (done (stable (spacing hz) (map angleOf c)))
+  answered r h = rw h (ap done made)
 
 pub stabilise-spec : {M : Type 1} → statement M
 stabilise-spec =
@@ -39,18 +46,12 @@ stabilise-spec =
     -- spacing-requires
     (λ c κs. search needs)
     -- angles-of-requires
-    (λ c κs. (c .before .before .entries .ensures, c .before .before .before .pre .0))
+    (λ c κs. search)
     -- settle-requires
     (λ c κs. search needs)
     -- clamp-requires
     (λ c κs. search needs)
     -- cosines-of-requires
-    (λ c κs. (
-      c .before .before .before .before .before .before .before .entries .ensures,
-      room _ _ _ _ (search needs) (c .before .before .before .before .before .before .before .before .pre .0) (c .before .before .before .before .before .before .before .before .pre .1) (c .before .before .before .before .before .before .before .before .pre .2)
-          (made (c .before .before .before .before .before .before .before .before .args .cosines) _ _ _ _ _ (c .before .before .before .before .before .before .spacing .ensures) (c .before .before .before .before .angles-of .ensures) (c .before .before .before .settle .ensures) (c .before .clamp .ensures)),
-    ))
+    (λ c κs. search (room, needs))
     -- returns
-    (λ c. answered _ _ _ _
-    (made (c .before .before .before .before .before .before .before .before .before .args .cosines) _ _ _ _ _ (c .before .before .before .before .before .before .before .spacing .ensures) (c .before .before .before .before .before .angles-of .ensures) (c .before .before .before .before .settle .ensures) (c .before .before .clamp .ensures))
-    (c .cosines-of .ensures)))
+    (λ c. search answered))

@@ -4,15 +4,15 @@ use mathlib.Core.Path.{refl}
 use Prim.Native.Nat.{_-_}
 use Rattle.float.proofs.Table.{Filled, filled-none, filled-more, filled-all}
 use Rattle.float.specs.Vector.{at}
-use Rattle.weighting.specs.Line.{behind}
+use Rattle.weighting.specs.inner.Delay.{behind}
 use Rattle.weighting.proofs.last_ten.Statement.{statement}
 use Rattle.weighting.proofs.last_ten.Tie as tie
 
 abbrev Inv-loop : tie.InvT-loop
-Inv-loop line memory₀ k₀ memory k = Filled 10 (λ i. at line (69 - i)) k memory
+Inv-loop delay memory₀ k₀ memory k = Filled 10 (λ i. at delay (69 - i)) k memory
 
 abbrev μ-loop : tie.MeasureT-loop
-μ-loop line memory₀ k₀ memory k = 10 - k
+μ-loop delay memory₀ k₀ memory k = 10 - k
 
 pub last-ten-spec : {M : Type 1} → statement M
 unfolding behind
@@ -38,6 +38,6 @@ last-ten-spec =
     -- loop-less
     (λ c. search needs)
     -- loop-again
-    (λ c. filled-more 10 _ _ _ _ (c .before .loop-test .taken) refl (c .before .before .loop .inv))
+    (λ c. search filled-more)
     -- returns
-    (λ c. filled-all 10 _ _ _ (c .loop-test .left) (c .before .loop .inv)))
+    (λ c. search filled-all))

@@ -26,7 +26,9 @@ abbrev μ-loop : tie.MeasureT-loop
 μ-loop a entries out₀ k₀ out k = 10 - k
 
 -- one tap as the code works it out
-turn : (a : List Float) (entries : List ℤ) (k : ℕ) (out : List Float) (z : ℤ) → k < 10 → z ≡ getD entries k (pos 0) → Tapped a entries k out → Tapped a entries (k + 1) (set out k (at a (k + 1) ⊗ (ofInt binary32 z ⊘ ofBits binary32 1191182336)))
+turn : (a : List Float) (entries : List ℤ) (k : ℕ) (out : List Float) (z : ℤ) → k < 10 → z ≡ getD entries k (pos 0)
+    → Tapped a entries k out
+    → Tapped a entries (k + 1) (set out k (at a (k + 1) ⊗ (ofInt binary32 z ⊘ ofBits binary32 1191182336)))
 unfolding single round ofBits
 turn a entries k out z h e r = filled-more 10 _ k out _ h (rw (add-one, e)) r
 
@@ -60,7 +62,10 @@ scaled-spec =
     -- loop-less
     (λ c. search needs)
     -- loop-again
-    (λ c. turn (c .before .before .before .before .args .t1) (c .before .before .before .before .args .t2) (c .before .before .before .loop .k) (c .before .before .before .loop .out) _ (c .before .before .loop-test .taken)
-    (toZ-ofZ {w = w16} (record { sfits = c .before .out .given })) (c .before .before .before .loop .inv))
+    (λ c.
+    let turned = c .before .before .before in
+    let given = turned .before .args in
+    let entry = toZ-ofZ {w = w16} (record { sfits = c .before .out .given }) in
+    turn (given .t1) (given .t2) (turned .loop .k) (turned .loop .out) _ (search) entry (turned .loop .inv))
     -- returns
-    (λ c. filled-all 10 _ _ _ (c .loop-test .left) (c .before .loop .inv)))
+    (λ c. search filled-all))

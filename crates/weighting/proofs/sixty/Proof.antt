@@ -1,7 +1,10 @@
 -- `weighting::sixty` meets its contract: after i turns the first i samples stand. Assumes nothing.
 use borrow.Author.Needs.{needs}
-use mathlib.Core.Path.{refl, _∙_}
-use Prim.Native.Nat.{_-_}
+use mathlib.Core.Path.{_≡_, refl, _∙_}
+use mathlib.Core.List.{List}
+use Prim.Native.Nat.{ℕ, _-_, _≤_}
+use lib.Ieee.{Float, nan}
+use lib.ListN.{length}
 use Rattle.float.specs.Vector.{at}
 use Rattle.float.proofs.Table.{table-entries, Filled, filled-none, filled-more, filled-all}
 use Rattle.weighting.proofs.sixty.Statement.{statement}
@@ -12,6 +15,9 @@ Inv-loop x out₀ i₀ out i = Filled 60 (at x) i out
 
 abbrev μ-loop : tie.MeasureT-loop
 μ-loop x out₀ i₀ out i = 60 - i
+
+copied : (x out : List Float) (i : ℕ) → length x ≡ 60 → 60 ≤ i → Filled 60 (at x) i out → out ≡ x
+copied x out i h l r = filled-all 60 (at x) i out l r ∙ table-entries 60 x nan h
 
 pub sixty-spec : {M : Type 1} → statement M
 sixty-spec =
@@ -34,6 +40,6 @@ sixty-spec =
     -- loop-less
     (λ c. search needs)
     -- loop-again
-    (λ c. filled-more 60 _ _ _ _ (c .before .loop-test .taken) refl (c .before .before .loop .inv))
+    (λ c. search filled-more)
     -- returns
-    (λ c. filled-all 60 _ _ _ (c .loop-test .left) (c .before .loop .inv) ∙ table-entries 60 _ _ (c .before .before .pre)))
+    (λ c. search copied))

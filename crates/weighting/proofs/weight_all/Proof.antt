@@ -1,13 +1,14 @@
--- `weighting::weight_all` meets its contract: after n turns the line of outputs is that of n samples. Assumes nothing.
+-- `weighting::weight_all` meets its contract: after n turns the delay of outputs is that of n samples. Assumes nothing.
 use borrow.Author.Needs.{needs}
 use mathlib.Core.Path.{refl}
 use Prim.Native.Nat.{_-_}
-use Rattle.weighting.specs.Line.{behind}
-use Rattle.weighting.proofs.Running.{own-line, Running, running-none, running-more, running-all}
+use native.Mathlib.Omega.{arith}
+use Rattle.weighting.specs.inner.Delay.{behind}
+use Rattle.weighting.proofs.Running.{own-delay, Running, running-none, running-more, running-all}
 use Rattle.weighting.proofs.weight_all.Statement.{statement}
 use Rattle.weighting.proofs.weight_all.Tie as tie
 
--- the memories given are those of the lines at the start
+-- the memories given are those of the delays at the start
 abbrev Inv-loop : tie.InvT-loop
 Inv-loop x wz wp xs fs₀ out₀ n₀ fs out n = Running x wz wp (behind 0 xs) (behind 0 fs₀) n fs out
 
@@ -20,9 +21,9 @@ weight-all-spec =
     (tie.spec
     Inv-loop
     μ-loop
-    -- delay-line-requires
+    -- delayed-requires
     (λ c κs. search needs)
-    -- start-line-requires
+    -- start-delay-requires
     (λ c κs. search needs)
     -- sixty-requires
     (λ c κs. search needs)
@@ -49,12 +50,13 @@ weight-all-spec =
     -- loop-less
     (λ c. search needs)
     -- loop-again
-    (λ c. running-more _ _ _ _ _ _ _ _ (c .before .before .before .before .before .before .before .before .before .before .before .pre) (c .before .before .before .before .before .loop-test .taken) (c .before .before .before .before .before .before .loop .inv)
-    _ _ _ (own-line (c .before .before .before .before .before .before .before .before .before .delay-line .ensures)) refl (c .weight-sample .ensures))
+    (λ c.
+    let turned = c .before .before .before .before .before .before in
+    let inputs = own-delay (turned .before .before .before .delayed .ensures) in
+    running-more _ _ _ _ _ _ _ _ (search) (omega arith) (turned .loop .inv) _ _ _ inputs refl (c .weight-sample .ensures))
     -- last-ten-requires
     (λ c κs. search needs)
     -- last-ten-requires-2
     (λ c κs. search needs)
     -- returns
-    (λ c. running-all _ _ _ _ _ _ _ _ _ _ _ _ (c .before .before .before .before .before .before .before .before .before .before .pre) (c .before .before .before .before .before .before .before .before .delay-line .ensures) (c .before .before .before .before .before .before .before .start-line .ensures)
-    (c .before .before .before .before .loop-test .left) (c .before .before .last-ten .ensures) (c .last-ten2 .ensures) (c .before .before .before .before .before .loop .inv)))
+    (λ c. search running-all))

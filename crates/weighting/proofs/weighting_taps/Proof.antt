@@ -1,39 +1,34 @@
--- `weighting::weighting_taps` meets its contract. Assumes nothing.
+-- `weighting::weighting_taps` meets its contract: the refusal that the check names, or both sets of taps. Assumes nothing.
 use borrow.Author.Needs.{needs}
-use borrow.Author.Tests.{not-true, not-false}
-use mathlib.Core.Path.{_≡_, refl, sym, ap, _∙_}
-use mathlib.Core.Bool.{true, false}
+use mathlib.Core.Path.{_≡_}
 use mathlib.Core.List.{List}
 use lib.IntN.{ℤ}
-use lib.Ieee.{Float, ofBits}
-use lib.Ieee.Scale.{finite}
-use Rattle.float.specs.Refusal.{all}
-use Rattle.float.specs.Vector.{zeros}
+use lib.Ieee.{Float}
+use Rattle.float.proofs.Refusal.{answer-refused, answer-done}
 use Rattle.spec_tables.specs.Tables.{perceptualZero, perceptualPole}
 use Rattle.weighting.specs.declared.WeightingTaps.{WeightingTaps}
 use Rattle.weighting.specs.Taps.{taps, weightingTaps}
 use Rattle.weighting.proofs.weighting_taps.Statement.{statement}
 use Rattle.weighting.proofs.weighting_taps.Tie as tie
 
-stop : (a : List Float) → all finite a ≡ false → _≡_ {A = WeightingTaps} (record { status = 5; wz = zeros 10; wp = zeros 10 }) (weightingTaps a)
-unfolding weightingTaps
-stop a h = rw h
-
-go : (a z p : List Float) (s t : List ℤ) → all finite a ≡ true → s ≡ perceptualZero → t ≡ perceptualPole → z ≡ taps s a → p ≡ taps t a → _≡_ {A = WeightingTaps} (record { status = 0; wz = z; wp = p }) (weightingTaps a)
-unfolding weightingTaps
-go a z p s t h e f g k = rw (h, g, k, e, f)
+-- each set is made from its own table
+made : (a z p : List Float) (s t : List ℤ) → s ≡ perceptualZero → t ≡ perceptualPole → z ≡ taps s a → p ≡ taps t a
+    → _≡_ {A = WeightingTaps} (record { status = 0; wz = z; wp = p }) (record { status = 0; wz = taps perceptualZero a; wp = taps perceptualPole a })
+made a z p s t e f g h = rw (g, h, e, f)
 
 pub weighting-taps-spec : {M : Type 1} → statement M
-unfolding ofBits
+unfolding weightingTaps
 weighting-taps-spec =
     tie.close
     (tie.spec
-    -- slice-aggregate-all-finite
+    -- slice-aggregate-check-finite
     (λ c. search needs)
-    -- all-finite-requires
+    -- check-finite-requires
+    (λ c κs. search needs)
+    -- refused-taps-requires
     (λ c κs. search needs)
     -- returns
-    (λ c. stop _ (sym (c .before .all-finite .ensures) ∙ not-true _ (c .if1 .taken)))
+    (λ c. search answer-refused)
     -- perceptual-zero-requires
     (λ c κs. search needs)
     -- perceptual-pole-requires
@@ -43,5 +38,4 @@ weighting-taps-spec =
     -- scaled-requires-2
     (λ c κs. search needs)
     -- returns-2
-    (λ c. go _ _ _ _ _ (sym (c .before .before .before .before .before .all-finite .ensures) ∙ not-false _ (c .before .before .before .before .if1 .left))
-    (c .before .before .before .perceptual-zero .ensures) (c .before .before .perceptual-pole .ensures) (c .before .scaled .ensures) (c .scaled2 .ensures)))
+    (λ c. search (answer-done, made)))

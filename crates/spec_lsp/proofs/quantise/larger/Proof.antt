@@ -1,5 +1,4 @@
 -- `spec_lsp::quantise::larger` meets its contract. Assumes nothing.
-use mathlib.Core.Path.{refl}
 use Rattle.spec_lsp.specs.Quantise.{larger}
 use Rattle.spec_lsp.proofs.quantise.larger.Statement.{statement}
 use Rattle.spec_lsp.proofs.quantise.larger.Tie as tie

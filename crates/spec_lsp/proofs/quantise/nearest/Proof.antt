@@ -1,7 +1,7 @@
 -- `spec_lsp::quantise::nearest` meets its contract: one neighbour at either end, else the nearer of two. Assumes nothing.
 use borrow.Author.Needs.{needs}
 use borrow.Author.Tests.{ne-eqb}
-use mathlib.Core.Path.{_≡_, refl, sym, ap, _∙_}
+use mathlib.Core.Path.{_≡_, refl, ap}
 use mathlib.Core.List.{List}
 use Prim.Native.Nat.{ℕ, zero, suc, _+_, _-_}
 use native.Mathlib.Numerals.{add-one}
@@ -10,7 +10,7 @@ use lib.Dec.{eqb}
 use lib.Ieee.{Float}
 use Rattle.float.specs.Single.{_⊖_}
 use Rattle.float.specs.Vector.{at}
-use Rattle.spec_lsp.specs.Quantise.{smaller, gap, nearest}
+use Rattle.spec_lsp.specs.Quantise.{smaller, nearest}
 use Rattle.spec_lsp.proofs.quantise.nearest.Statement.{statement}
 use Rattle.spec_lsp.proofs.quantise.nearest.Tie as tie
 
@@ -22,7 +22,8 @@ last : (p : List Float) (i : ℕ) → i ≡ 9 → at p 9 ⊖ at p 8 ≡ nearest 
 unfolding nearest
 last p i e = rw e
 
-inner : (p : List Float) (i : ℕ) (x : Float) → (i ≡ 0 → ⊥) → (i ≡ 9 → ⊥) → x ≡ smaller (at p i ⊖ at p (i - 1)) (at p (i + 1) ⊖ at p i) → x ≡ nearest p i
+inner : (p : List Float) (i : ℕ) (x : Float) → (i ≡ 0 → ⊥) → (i ≡ 9 → ⊥) →
+    x ≡ smaller (at p i ⊖ at p (i - 1)) (at p (i + 1) ⊖ at p i) → x ≡ nearest p i
 unfolding nearest
 inner p zero x h k e = absurd (h refl)
 inner p (suc i) x h k e =

@@ -8,6 +8,7 @@ use lib.ListN.{getD, set}
 use lib.Ieee.{Float, binary32, ofInt}
 use mir.Facts.{toZ-ofZ}
 use mir.Syntax.{w16}
+use mir.Val.{SFits, toZ, ofZ}
 use Rattle.float.specs.Single.{_⊖_}
 use Rattle.float.specs.Table.{table}
 use Rattle.float.specs.Vector.{at}
@@ -22,20 +23,27 @@ use Rattle.spec_lsp.proofs.quantise.residual_target.Tie as tie
 abbrev one : List Float → List Float → List ℤ → ℕ → Float
 one p prev dc k = at p k ⊖ number dc k ⊖ predicted (at prev k) (number dc k)
 
+-- the first i numbers
+record Aimed (p prev : List Float) (dc : List ℤ) (i : ℕ) (out : List Float) : Type 0 where
+  filled : Filled 10 (one p prev dc) i out
+
 abbrev Inv-loop : tie.InvT-loop
-Inv-loop p prev dc t₀ i₀ t i = Filled 10 (one p prev dc) i t
+Inv-loop p prev dc t₀ i₀ t i = Aimed p prev dc i t
 
 abbrev μ-loop : tie.MeasureT-loop
 μ-loop p prev dc t₀ i₀ t i = 10 - i
 
-turn : (p prev : List Float) (dc : List ℤ) (i : ℕ) (out : List Float) (x : Float) (z : ℤ) → i < 10 → z ≡ getD dc i (pos 0) → x ≡ predicted (at prev i) (ofInt binary32 z) →
-    Filled 10 (one p prev dc) i out → Filled 10 (one p prev dc) (i + 1) (set out i (at p i ⊖ ofInt binary32 z ⊖ x))
-turn p prev dc i out x z h e f r =
-    filled-more 10 (one p prev dc) i out _ h (ap (λ (y : Float). at p i ⊖ ofInt binary32 z ⊖ y) f ∙ ap (λ (v : ℤ). at p i ⊖ ofInt binary32 v ⊖ predicted (at prev i) (ofInt binary32 v)) e) r
+-- a number more: what the code reads of a resting value's sixteen bits is the value
+turn : (p prev : List Float) (dc : List ℤ) (i : ℕ) (out : List Float) {x : Float} → i < 10 →
+    SFits w16 (getD dc i (pos 0)) →
+    let rest = ofInt binary32 (toZ w16 (ofZ w16 (getD dc i (pos 0)))) in
+    x ≡ predicted (at prev i) rest → Aimed p prev dc i out → Aimed p prev dc (i + 1) (set out i (at p i ⊖ rest ⊖ x))
+turn p prev dc i out h e f r = record { filled = filled-more 10 (one p prev dc) i out _ h (rw (f, toZ-ofZ e)) (r .filled) }
 
-done : (p prev : List Float) (dc : List ℤ) (i : ℕ) (out : List Float) → 10 ≤ i → dc ≡ dcFreq → Filled 10 (one p prev dc) i out → out ≡ target p prev
+done : {p prev : List Float} {dc : List ℤ} {i : ℕ} {out : List Float} → 10 ≤ i → dc ≡ dcFreq → Aimed p prev dc i out →
+    out ≡ target p prev
 unfolding target
-done p prev dc i out h e r = filled-all 10 (one p prev dc) i out h r ∙ ap (λ (d : List ℤ). table 10 (one p prev d)) e
+done {p} {prev} {dc} {i} {out} h e r = filled-all 10 (one p prev dc) i out h (r .filled) ∙ ap (λ (d : List ℤ). table 10 (one p prev d)) e
 
 pub residual-target-spec : {M : Type 1} → statement M
 residual-target-spec =
@@ -46,7 +54,7 @@ residual-target-spec =
     -- lsp-dc-predicted-freq-requires
     (λ c κs. search needs)
     -- loop-holds
-    (λ c. filled-none 10 _ _ refl)
+    (λ c. record { filled = filled-none 10 _ _ refl })
     -- mul-rest
     (λ c. search needs)
     -- array-copy-out-rest
@@ -72,6 +80,6 @@ residual-target-spec =
     -- loop-less
     (λ c. search needs)
     -- loop-again
-    (λ c. turn (c .before .before .before .before .before .before .args .t1) (c .before .before .before .before .before .before .args .t2) (c .before .before .before .before .before .lsp-dc-predicted-freq .result) _ _ _ _ (c .before .before .before .loop-test .taken) (toZ-ofZ {w = w16} (record { sfits = c .before .before .rest .given })) (c .predict .ensures) (c .before .before .before .before .loop .inv))
+    (λ c. search (turn, needs))
     -- returns
-    (λ c. done _ _ _ _ _ (c .loop-test .left) (c .before .before .lsp-dc-predicted-freq .ensures) (c .before .loop .inv)))
+    (λ c. done (search needs) (search needs) (c .before .loop .inv)))

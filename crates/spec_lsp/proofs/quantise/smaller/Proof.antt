@@ -1,5 +1,4 @@
 -- `spec_lsp::quantise::smaller` meets its contract. Assumes nothing.
-use mathlib.Core.Path.{refl}
 use Rattle.spec_lsp.specs.Quantise.{smaller}
 use Rattle.spec_lsp.proofs.quantise.smaller.Statement.{statement}
 use Rattle.spec_lsp.proofs.quantise.smaller.Tie as tie

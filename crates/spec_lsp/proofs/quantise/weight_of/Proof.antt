@@ -1,6 +1,6 @@
 -- `spec_lsp::quantise::weight_of` meets its contract. Assumes nothing.
 use borrow.Author.Needs.{needs}
-use mathlib.Core.Path.{_≡_, ap, _∙_}
+use mathlib.Core.Path.{_≡_, ap}
 use lib.Ieee.{Float, binary32, ofBits, round}
 use Rattle.float.specs.Single.{_⊘_, single}
 use Rattle.spec_lsp.specs.Quantise.{larger, weightOf}

@@ -1,8 +1,10 @@
--- `spec_tables::LspBand::first_row` meets its contract, band by band.
+-- `spec_tables::LspBand::first_row` meets its contract: no band starts past the sixth frequency, so the product fits.
 -- Assumes nothing.
-use mathlib.Core.Path.{sym, ap}
+use mathlib.Core.Path.{ap}
+use Prim.Native.Nat.{_*_}
 use borrow.Author.Needs.{needs}
-use Rattle.spec_tables.specs.Band.{firstRow}
+use Rattle.spec_tables.specs.declared.BandPlace.{BandPlace}
+use Rattle.spec_tables.proofs.Bands.{first-fits}
 use Rattle.spec_tables.proofs.LspBand.first_row.Statement.{statement}
 use Rattle.spec_tables.proofs.LspBand.first_row.Tie as tie
 
@@ -10,15 +12,9 @@ pub first-row-spec : {M : Type 1} → statement M
 first-row-spec =
     tie.close
     (tie.spec
-    -- enum-told
-    (λ c. search needs)
-    -- enum-told-2
-    (λ c. search needs)
-    -- enum-told-3
-    (λ c. search needs)
+    -- start-and-length-requires
+    (λ c κs. search needs)
+    -- mul-result
+    (λ c. search (first-fits, needs))
     -- returns
-    (λ c. sym (ap firstRow (c .enum-told .given .1)))
-    -- returns-2
-    (λ c. sym (ap firstRow (c .enum-told2 .given .1)))
-    -- returns-3
-    (λ c. sym (ap firstRow (c .enum-told3 .given .1))))
+    (λ c. ap (λ (p : BandPlace). 256 * p .start) (c .before .start-and-length .ensures)))

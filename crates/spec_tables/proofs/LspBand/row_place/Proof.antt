@@ -1,33 +1,30 @@
--- `spec_tables::LspBand::row_place` meets its contract: 256 rows for each frequency before the band, and `index` rows of its own.
+-- `spec_tables::LspBand::row_place` meets its contract: `index` rows after the band's first one.
 -- Assumes nothing.
+use mathlib.Core.Path.{_≡_}
+use Prim.Native.Nat.{ℕ, _+_, _*_}
 use borrow.Author.Needs.{needs}
-use native.Mathlib.Omega.{arith}
+use Rattle.spec_tables.specs.declared.BandPlace.{BandPlace}
+use Rattle.spec_tables.specs.declared.LspBand.{LspBand}
+use Rattle.spec_tables.specs.Band.{placeOf, firstRow}
+use Rattle.spec_tables.proofs.Bands.{index-fits, place-fits}
 use Rattle.spec_tables.proofs.LspBand.row_place.Statement.{statement}
 use Rattle.spec_tables.proofs.LspBand.row_place.Tie as tie
+
+sum : (b : LspBand) (index first : ℕ) (p : BandPlace) → first ≡ firstRow b → p ≡ placeOf b →
+    first + index * p .length ≡ firstRow b + index * placeOf b .length
+sum b index first p e f = rw (e, f)
 
 pub row-place-spec : {M : Type 1} → statement M
 row-place-spec =
     tie.close
     (tie.spec
-    -- enum-told
-    (λ c. search needs)
+    -- first-row-requires
+    (λ c κs. search needs)
+    -- start-and-length-requires
+    (λ c κs. search needs)
     -- mul-result
-    (λ c. search needs)
-    -- enum-told-2
-    (λ c. search needs)
-    -- mul-result-2
-    (λ c. search needs)
+    (λ c. search (index-fits, needs))
     -- add-result
-    (λ c. search needs)
-    -- enum-told-3
-    (λ c. search needs)
-    -- mul-result-3
-    (λ c. search needs)
-    -- add-result-2
-    (λ c. search needs)
+    (λ c. search (place-fits, needs))
     -- returns
-    (λ c. rw (c .enum-told .given .1) (omega arith))
-    -- returns-2
-    (λ c. rw (c .enum-told2 .given .1) (omega arith))
-    -- returns-3
-    (λ c. rw (c .enum-told3 .given .1) (omega arith)))
+    (λ c. search sum))

@@ -1,10 +1,16 @@
 -- `spec_tables::LspBand::start_and_length` meets its contract: what the band table holds for each band.
 -- Assumes nothing.
 use borrow.Author.Needs.{needs}
-use mathlib.Core.Path.{sym, ap}
+use mathlib.Core.Path.{_≡_}
+use Rattle.spec_tables.specs.declared.BandPlace.{BandPlace}
+use Rattle.spec_tables.specs.declared.LspBand.{LspBand}
 use Rattle.spec_tables.specs.Band.{placeOf}
 use Rattle.spec_tables.proofs.LspBand.start_and_length.Statement.{statement}
 use Rattle.spec_tables.proofs.LspBand.start_and_length.Tie as tie
+
+-- what the table holds for the band that the match has found
+told : (b x : LspBand) (p : BandPlace) → b ≡ x → p ≡ placeOf x → p ≡ placeOf b
+told b x p e f = rw e f
 
 pub start-and-length-spec : {M : Type 1} → statement M
 start-and-length-spec =
@@ -41,8 +47,8 @@ start-and-length-spec =
     -- cast-t32
     (λ c. search needs)
     -- returns
-    (λ c. sym (ap placeOf (c .before .before .enum-told .given .1)))
+    (λ c. search told)
     -- returns-2
-    (λ c. sym (ap placeOf (c .before .before .enum-told2 .given .1)))
+    (λ c. search told)
     -- returns-3
-    (λ c. sym (ap placeOf (c .before .before .enum-told3 .given .1))))
+    (λ c. search told))

@@ -1,0 +1,55 @@
+//! The published Rust's functions on the inputs that a door is called on.
+
+use crate::given::Given;
+use crate::pairs::Run;
+use oracle::reference::{Memory, Rust};
+use std::hint::black_box;
+
+fn timed<T>(call: impl Fn(usize) -> T + 'static) -> Option<Run> {
+    Some(Box::new(move |i| {
+        black_box(call(i));
+    }))
+}
+
+/// For each function: the door's parameters that it takes, in which form, and its call.
+macro_rules! functions {
+    ($rust:ident, $given:ident; $($name:ident($($parameter:ident: $form:ident),*) => $call:expr;)*) => {
+        $(if $given.door.name == stringify!($name) {
+            let $name = $rust.$name;
+            $(let $parameter = $given.$form(stringify!($parameter));)*
+            return timed(move |i| {
+                $(let $parameter = &$parameter[i];)*
+                $call
+            });
+        })*
+    };
+}
+
+/// The Rust's function of a door's name, if it has one.
+pub fn run(rust: &Rust, given: &Given) -> Option<Run> {
+    functions! { rust, given;
+        lpc_analysis(window: lists) => lpc_analysis(window);
+        lpc_to_lsp(a: arrays) => lpc_to_lsp(a);
+        lsp_cosines_to_freq(cosines: arrays) => lsp_cosines_to_freq(cosines);
+        lsp_freq_to_cosines(freq: arrays) => lsp_freq_to_cosines(freq);
+        quantise_lsp_freq(p: arrays, prev: arrays) => quantise_lsp_freq(p, prev);
+        decode_lsp_freq(index: numbers, prev: arrays) => decode_lsp_freq(*index, prev);
+        enforce_lsp_stability(cosines: arrays, spacing_hz: singles) => enforce_lsp_stability(cosines, *spacing_hz);
+        interpolate_lsp(choice: sizes, prev: arrays, cur: arrays) => interpolate_lsp(*choice, prev, cur);
+        lsp_to_lpc(lsp: arrays) => lsp_to_lpc(lsp);
+        weighting_taps(a: arrays) => weighting_taps(a);
+        weight_subframe(x: lists, wz: arrays, wp: arrays, x_mem: arrays, f_mem: arrays) =>
+            weight_subframe(x, wz, wp, &mut { *x_mem }, &mut { *f_mem });
+        open_loop_pitch(wbuf: lists, half: sizes) => open_loop_pitch(wbuf, *half);
+        harmonic_noise_shaping(wbuf: lists, place: sizes, l_ol: numbers) =>
+            harmonic_noise_shaping(wbuf, *place, *l_ol as i32);
+        run_combined(syn: arrays, wz_mem: arrays, wp_mem: arrays, p_hist: arrays, input: arrays, aq: arrays, wz: arrays,
+            wp: arrays, lag: numbers, beta: singles) => {
+            let memory = Memory { syn: *syn, wz: *wz_mem, wp: *wp_mem, p_hist: *p_hist };
+            run_combined(memory, input, aq, wz, wp, *lag as i32, *beta)
+        };
+        combined_impulse_response(aq: arrays, wz: arrays, wp: arrays, lag: numbers, beta: singles) =>
+            combined_impulse_response(aq, wz, wp, *lag as i32, *beta);
+    }
+    None
+}

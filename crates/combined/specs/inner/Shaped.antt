@@ -1,0 +1,12 @@
+-- Harmonic noise shaping over all harmonic inputs at once, so that the history is moved once a subframe. Its law, that these are the cascade's outputs:
+-- `out-shaped` in proofs/History.antt. Assumes nothing.
+use Prim.Native.Nat.{ℕ, _+_, _-_}
+use mathlib.Core.List.{List}
+use lib.Ieee.{Float}
+use Rattle.float.specs.Single.{_⊖_, _⊗_}
+use Rattle.float.specs.Vector.{at}
+use Rattle.combined.specs.Memory.{reach}
+
+-- the history with the harmonic inputs of a subframe after it, shaped at sample n
+abbrev pub shaped : ℕ → Float → List Float → ℕ → Float
+shaped lag beta p n = at p (n + reach) ⊖ beta ⊗ at p (n + reach - lag)

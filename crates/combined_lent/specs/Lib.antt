@@ -1,2 +1,0 @@
--- The answer beside a lent memory.
-pub mod Answered

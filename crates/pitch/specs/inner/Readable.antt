@@ -1,0 +1,25 @@
+-- What the work may count on once the check has passed: the samples that it reads are there, and finite. Assumes nothing.
+use mathlib.Core.Path.{_≡_}
+use mathlib.Core.Bool.{true}
+use mathlib.Core.List.{List}
+use Prim.Native.Nat.{ℕ, _+_, _≤_}
+use lib.Ieee.{Float}
+use lib.Ieee.Scale.{finite}
+use lib.ListN.{length, take}
+use Rattle.float.specs.Refusal.{all}
+use Rattle.pitch.specs.Pitch.{start}
+use Rattle.pitch.specs.Shaping.{read}
+
+-- a half for open-loop pitch
+pub record Half (limit : ℕ) (w : List Float) (half : ℕ) : Type 0 where
+  pub one : half ≤ 1
+  pub long : start limit half + 120 ≤ length w
+  pub fine : all finite (take (start limit half + 120) w) ≡ true
+
+-- a subframe for harmonic noise shaping
+pub record Subframe (limit : ℕ) (w : List Float) (place l : ℕ) : Type 0 where
+  pub low : 18 ≤ l
+  pub high : l ≤ limit
+  pub early : limit + 3 ≤ place
+  pub long : place + 60 ≤ length w
+  pub fine : all finite (read limit w place) ≡ true

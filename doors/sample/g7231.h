@@ -1,0 +1,66 @@
+/* A header that doors/test alone reads, for the kinds of parameters that include/g7231.h may come to have. */
+#ifndef G7231_H
+#define G7231_H
+
+#include <stddef.h>
+#include <stdint.h>
+
+#ifdef __cplusplus
+extern "C" {
+#endif
+
+#define G7231_VERSION "9.8.7"
+
+enum {
+    G7231_ROWS = 4 /* rows of a table */
+};
+
+enum {
+    G7231_DONE = 0,   /* done */
+    G7231_LENGTH = 1, /* a list of another length than asked for */
+    G7231_SUM = 3     /* a sum out of range */
+};
+
+const char *g7231_refusal(uint32_t status);
+
+/* A memory that the caller holds. */
+typedef struct {
+    int16_t gain;           /* one number */
+    uint8_t tag[3];         /* some bytes */
+    float line[G7231_ROWS]; /* and what C puts between */
+    double sum;
+} g7231_held_state;
+
+/* Three numbers out of six bytes. Has no bare form.
+ * Takes:
+ *   bytes: any, 6 of them
+ * Makes:
+ *   out: 3 numbers
+ * Refuses:
+ *   1 G7231_LENGTH: len is not 6, or out_len is not 3 */
+uint32_t g7231_unpack(const uint8_t *bytes, size_t len, int16_t *out, size_t out_len);
+
+/* A number of each kind.
+ * Takes:
+ *   rows: speech, as whole numbers; 7 of them
+ *   a, b, c, d: any
+ *   e: factor
+ *   state: any, moved on
+ * Refuses:
+ *   1 G7231_LENGTH: rows_len is not 7
+ *   3 G7231_SUM: d is the least number */
+uint32_t g7231_mix(const int16_t *rows, size_t rows_len, uint8_t a, int16_t b, uint16_t c, int32_t d, double e,
+                   g7231_held_state *state, int32_t *sum);
+
+/* A struct by value, and two of them lent.
+ * Takes:
+ *   one: any
+ *   two: any
+ * Refuses: nothing */
+uint32_t g7231_gains(g7231_held_state one, const g7231_held_state two[2], uint16_t gains[3]);
+
+#ifdef __cplusplus
+}
+#endif
+
+#endif

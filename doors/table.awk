@@ -1,0 +1,48 @@
+# The table of doors in C (doors/door.h).
+
+BEGIN {
+    print "/* Made from include/g7231.h by doors/make table. */"
+    print "#include \"table.h\"\n\n#include \"g7231_bare.h\"\n"
+    holds["U8"] = holds["U16"] = holds["U32"] = "number"
+    holds["I16"] = holds["I32"] = "sign"
+    holds["Size"] = "size"
+    holds["F32"] = "single"
+    holds["F64"] = "twice"
+}
+
+# The C argument that stands at a place of the list.
+function given(at, way, element) {
+    if (way != "Value") return "a[" at "].place"
+    if (!(element in holds)) return "*(const " element " *)a[" at "].place"
+    return (element ~ /16|U8/ ? "(" c_element(element) ")" : "") "a[" at "]." holds[element]
+}
+
+$1 == "door" { doors[++count] = $2; forms[$2] = $3 }
+$1 == "refusal" { refusals[$2] = refusals[$2] $3 ", " }
+$1 == "parameter" {
+    at = many[$2]++
+    role = $8 == "" ? "NONE" : toupper($8)
+    gsub(/ /, "_", role)
+    rows[$2] = rows[$2] sprintf("    {\"%s\", %s, %s, sizeof(%s), %s, %d, %s},\n", $3, toupper($4), \
+        ($5 in holds ? toupper($5) : "STRUCT"), c_element($5), toupper($6), $7, role)
+    calls[$2] = calls[$2] (at ? ", " : "") given(at, $4, $5)
+}
+
+END {
+    for (i = 1; i <= count; i++) {
+        door = doors[i]
+        printf "static const struct parameter parameters_%s[] = {\n%s};\n", door, rows[door]
+        printf "static const uint32_t refusals_%s[] = {%s0};\n", door, refusals[door]
+        for (form = 1; form <= forms[door]; form++)
+            printf "static uint32_t %s_%s(const union argument *a) { return g7231_%s%s(%s); }\n", \
+                (form == 1 ? "safe" : "bare"), door, (form == 1 ? "" : "bare_"), door, calls[door]
+        print ""
+    }
+    print "const struct door doors[DOORS] = {"
+    for (i = 1; i <= count; i++) {
+        door = doors[i]
+        printf "    {\"%s\", %d, parameters_%s, refusals_%s, safe_%s, %s_%s},\n", door, many[door], door, door, door, \
+            (forms[door] == 2 ? "bare" : "safe"), door
+    }
+    print "};"
+}

@@ -1,0 +1,122 @@
+//! What inputs are made of: line sets, cosines, filters and their taps, signals, lags.
+
+use crate::random::Random;
+use crate::shape::bits;
+use crate::speech::piece;
+use std::f64::consts::PI;
+
+/// The resting set of the line frequencies, as the Rust publishes it.
+pub fn resting() -> [f32; 10] {
+    #[cfg(rust)]
+    return crate::spec_tables::LSP_DC_PREDICTED_FREQ_Q15.map(f32::from);
+    #[cfg(not(rust))]
+    return crate::doors::resting_set();
+}
+
+/// Ten frequencies that rise.
+pub fn ordered(random: &mut Random) -> [f32; 10] {
+    let whole = random.once_in(3);
+    let spread = *random.pick(&[0.0, 50.0, 400.0, 1500.0]);
+    let mut set: [f64; 10] = if random.once_in(3) {
+        std::array::from_fn(|_| random.between(0.0, 32_768.0))
+    } else {
+        resting().map(|f| f as f64 + random.between(-spread, spread))
+    };
+    set.sort_by(f64::total_cmp);
+    set.map(|f| if whole { f.round() as f32 } else { f as f32 })
+}
+
+/// A set that the line could have arrived at.
+pub fn decoded(random: &mut Random) -> [f32; 10] {
+    #[cfg(rust)]
+    {
+        let mut set = resting();
+        for _ in 0..random.below(4) {
+            set = crate::published::spec_lsp::decode_lsp_freq(random.bits(), &set);
+        }
+        set
+    }
+    #[cfg(not(rust))]
+    ordered(random)
+}
+
+/// Ten cosines that fall.
+pub fn cosines(random: &mut Random) -> [f32; 10] {
+    ordered(random).map(|f| (PI * f as f64 / 32_768.0).cos() as f32)
+}
+
+/// A stable filter of ten coefficients: five resonators.
+pub fn filter(random: &mut Random) -> [f32; 11] {
+    let mut a = [0.0f64; 11];
+    a[0] = 1.0;
+    let widest = *random.pick(&[0.5, 0.9, 0.99]);
+    for stage in 0..5 {
+        let (radius, angle) = (random.between(0.1, widest), random.between(0.0, PI));
+        let (b1, b2) = (-2.0 * radius * angle.cos(), radius * radius);
+        for i in (1..=2 * stage + 2).rev() {
+            a[i] += b1 * a[i - 1] + if i >= 2 { b2 * a[i - 2] } else { 0.0 };
+        }
+    }
+    a.map(|x| x as f32)
+}
+
+/// Its weighting taps, near enough.
+pub fn taps(random: &mut Random) -> ([f32; 10], [f32; 10]) {
+    let a = filter(random);
+    (
+        std::array::from_fn(|k| a[k + 1] * 0.9f32.powi(k as i32 + 1)),
+        std::array::from_fn(|k| a[k + 1] * 0.5f32.powi(k as i32 + 1)),
+    )
+}
+
+/// A signal: most often speech-like, else a tone, noise, a repeated pattern, a step, few pulses or silence.
+pub fn signal(random: &mut Random, n: usize) -> Vec<f32> {
+    let shape = random.below(12);
+    let raw: Vec<f64> = match shape {
+        0 => {
+            let (pace, phase) = (random.between(0.0, PI), random.between(0.0, PI));
+            (0..n).map(|t| (pace * t as f64 + phase).sin()).collect()
+        }
+        1 => (0..n).map(|_| random.between(-1.0, 1.0)).collect(),
+        2 => {
+            let pattern: Vec<f64> = (0..18 + random.below(125)).map(|_| random.between(-1.0, 1.0)).collect();
+            (0..n).map(|t| pattern[t % pattern.len()]).collect()
+        }
+        3 => {
+            let from = random.below(n + 1);
+            (0..n).map(|t| if t >= from { 1.0 } else { 0.0 }).collect()
+        }
+        4 => sparse(random, n).into_iter().map(f64::from).collect(),
+        _ => piece(random, n),
+    };
+    let scale = *random.pick(&[1.0, 1.0, 0.1, 32_768.0, 32_767.0, 1e-3, 1e-38, 1e-44, 1e30]);
+    let whole = scale == 32_767.0;
+    raw.into_iter().map(|x| if whole { (x * scale).round() as f32 } else { (x * scale) as f32 }).collect()
+}
+
+/// A few small whole numbers among zeros: sums are exact and ratios tie.
+pub fn sparse(random: &mut Random, n: usize) -> Vec<f32> {
+    let mut out = vec![0.0; n];
+    if n > 0 {
+        for _ in 0..1 + random.below(12) {
+            out[random.below(n)] = random.below(21) as f32 - 10.0;
+        }
+    }
+    out
+}
+
+/// A pitch lag within bounds; now and then another number.
+pub fn lag(random: &mut Random, low: u32, high: u32) -> Vec<u32> {
+    vec![low + random.below((high - low + 1) as usize) as u32]
+}
+
+pub fn spacing(random: &mut Random) -> Vec<u32> {
+    let named = [31.25f32, 62.5, 0.0, -0.0, 400.0, 0.1, 2.546479];
+    let any = random.between(0.0, 400.0) as f32;
+    vec![if random.once_in(3) { any } else { *random.pick(&named) }.to_bits()]
+}
+
+pub fn memory(random: &mut Random, n: usize) -> Vec<u32> {
+    let empty = random.once_in(6);
+    bits(&signal(random, n).iter().map(|x| if empty { 0.0 } else { *x }).collect::<Vec<_>>())
+}

@@ -1,0 +1,251 @@
+//! Checks that what docs/REVIEW.md names is there.
+
+use pages::args::{fail, top, Args};
+use pages::{crates, read};
+use std::collections::{BTreeMap, BTreeSet};
+use std::fs;
+use std::path::{Path, PathBuf};
+
+const HELP: &str = "\
+review: check that every file, theorem, edit and test that docs/REVIEW.md names exists, and those that the other pages name
+
+  --file PATH        the page (docs/REVIEW.md of the repository around this folder)
+  --sentences PATH   document 01 numbered by sentence (../shared/01-sentences.md beside the repository, if it is there)
+  --help             this text
+
+A row of the page is `| C5 | \"Cosine of step k\" | .. |`: a sentence's number, its first words, what answers for it.
+A name in backquotes with a slash and no space is a path from the top of the repository, or a path and a name in that file, as
+`crates/cosine/specs/Cosine.antt#cosine`. Each path must exist, and each name must stand in its file outside comments.
+Under each letter the numbers run from 1 with none missing and none twice. Where the numbered sentences are at hand, each
+row's words must open its sentence, and every sentence must have a row.
+The other pages of docs/ and README.md are held to their paths and names too, but for what a build or a checkout makes
+(what lies in a folder target/, or starts with ../) and folders.
+On docs/TRUST.md a name in backquotes as `lpc:silence_not_seen` is an edit, crates/lpc/must-fail/silence_not_seen.edit: each must
+exist, and the page must name every edit that does. README.md must name in backquotes every crate that crates.txt lists.
+Exit status: 0 all is there; 1 something is missing; 2 bad usage.
+";
+
+fn main() {
+    let mut args = Args::new(HELP);
+    let top = top();
+    let file = args.value("--file").unwrap_or_else(|| top.join("docs/REVIEW.md"));
+    let given: Option<PathBuf> = args.value("--sentences");
+    args.end();
+    let default = top.join("../shared/01-sentences.md");
+    let sentences = match given {
+        Some(path) => Some(read(&path)),
+        None if default.is_file() => Some(read(&default)),
+        None => None,
+    };
+    let sentences = sentences.map(|text| numbered(&text));
+    let (mut faults, mut rows, mut bare, mut names) = (0, 0, 0, 0);
+    let mut seen: BTreeMap<char, u32> = BTreeMap::new();
+    for (i, line) in read(&file).lines().enumerate() {
+        let mut wrong = |what: String| {
+            println!("{}:{}: {what}", file.display(), i + 1);
+            faults += 1;
+        };
+        let before = names;
+        for name in named(line) {
+            names += 1;
+            if let Err(what) = exists(&top, name) {
+                wrong(what);
+            }
+        }
+        if let Some(row) = row(line) {
+            rows += 1;
+            bare += usize::from(names == before);
+            let (letter, digits) = row.number.split_at(1);
+            let last = seen.entry(letter.chars().next().unwrap_or('?')).or_default();
+            *last += 1;
+            if digits.parse() != Ok(*last) {
+                wrong(format!("{} stands where {letter}{last} is due", row.number));
+                *last = digits.parse().unwrap_or(*last);
+            }
+            if let Some(Err(what)) = sentences.as_ref().map(|all| opens(all, &row)) {
+                wrong(what);
+            }
+        }
+    }
+    if rows == 0 {
+        println!("{}: no row", file.display());
+        faults += 1;
+    }
+    if let Some(all) = sentences.as_ref().filter(|all| all.len() != rows) {
+        println!("{}: {rows} rows, and document 01 has {} sentences", file.display(), all.len());
+        faults += 1;
+    }
+    let held = match &sentences {
+        Some(all) => format!(", held to the {} sentences of document 01", all.len()),
+        None => String::new(),
+    };
+    println!("{rows} rows ({bare} without a path), {names} names{held}: {faults} faults");
+    faults += other_pages(&top, &file);
+    faults += edits(&top);
+    faults += map(&top);
+    if faults > 0 {
+        fail("a page names what is not there");
+    }
+}
+
+/// Checks the names on README.md and on the pages of docs/ but one; answers how many are not there.
+fn other_pages(top: &Path, but: &Path) -> u32 {
+    let mut pages = vec![top.join("README.md")];
+    let listed = fs::read_dir(top.join("docs")).unwrap_or_else(|e| fail(&format!("docs: {e}")));
+    pages.extend(listed.filter_map(|entry| Some(entry.ok()?.path())));
+    pages.retain(|page| page != but && page.extension().is_some_and(|e| e == "md"));
+    pages.sort();
+    let (mut faults, mut names) = (0, 0);
+    for page in &pages {
+        for (i, line) in read(page).lines().enumerate() {
+            let made = |name: &str| name.starts_with("../") || name.split('/').any(|folder| folder == "target");
+            for name in named(line).filter(|name| !made(name) && !name.ends_with('/')) {
+                names += 1;
+                if let Err(what) = exists(top, name) {
+                    println!("{}:{}: {what}", page.display(), i + 1);
+                    faults += 1;
+                }
+            }
+        }
+    }
+    println!("{names} names on {} other pages: {faults} faults", pages.len());
+    faults
+}
+
+/// Holds the edits that docs/TRUST.md names to those that are there, both ways; answers how many are missing on either side.
+fn edits(top: &Path) -> u32 {
+    let page = "docs/TRUST.md";
+    let text = read(&top.join(page));
+    let named: BTreeSet<&str> = quoted(&text).filter(|name| is_edit(name)).collect();
+    let there = edits_there(top).unwrap_or_else(|e| fail(&format!("crates: {e}")));
+    let mut faults = 0;
+    for name in named.iter().filter(|name| !there.contains(**name)) {
+        println!("{page}: there is no edit {name}");
+        faults += 1;
+    }
+    for name in there.iter().filter(|name| !named.contains(name.as_str())) {
+        println!("{page} does not name the edit {name}");
+        faults += 1;
+    }
+    println!("{} edits, {} of them named on {page}: {faults} faults", there.len(), named.len());
+    faults
+}
+
+/// Answers how many crates README.md does not name.
+fn map(top: &Path) -> u32 {
+    let (listed, page) = (crates(top), read(&top.join("README.md")));
+    let named: BTreeSet<&str> = quoted(&page).collect();
+    let missing: Vec<&String> = listed.iter().filter(|name| !named.contains(name.as_str())).collect();
+    for name in &missing {
+        println!("README.md does not name the crate {name}");
+    }
+    println!("{} crates, {} not named in README.md", listed.len(), missing.len());
+    missing.len() as u32
+}
+
+fn is_edit(name: &str) -> bool {
+    let word = |w: &str| !w.is_empty() && w.bytes().all(|b| b == b'_' || b.is_ascii_lowercase() || b.is_ascii_digit());
+    name.split_once(':').is_some_and(|(of, edit)| word(of) && word(edit))
+}
+
+/// Every crates/CRATE/must-fail/EDIT.edit, as CRATE:EDIT.
+fn edits_there(top: &Path) -> std::io::Result<BTreeSet<String>> {
+    let mut all = BTreeSet::new();
+    for of in fs::read_dir(top.join("crates"))? {
+        let of = of?;
+        let Ok(listed) = fs::read_dir(of.path().join("must-fail")) else { continue };
+        for edit in listed {
+            let name = edit?.file_name();
+            if let Some(name) = name.to_string_lossy().strip_suffix(".edit") {
+                all.insert(format!("{}:{name}", of.file_name().to_string_lossy()));
+            }
+        }
+    }
+    Ok(all)
+}
+
+/// What stands in backquotes.
+fn quoted(text: &str) -> impl Iterator<Item = &str> {
+    text.lines().flat_map(|line| line.split('`').skip(1).step_by(2))
+}
+
+/// The names in backquotes that are paths.
+fn named(line: &str) -> impl Iterator<Item = &str> {
+    quoted(line).filter(|name| name.contains('/') && !name.contains(' '))
+}
+
+struct Row<'a> {
+    number: &'a str,
+    words: &'a str,
+}
+
+/// A row of the table: a letter and a number first, then words in quotation marks.
+fn row(line: &str) -> Option<Row<'_>> {
+    let mut cells = line.strip_prefix('|')?.split('|').map(str::trim);
+    let number = cells.next()?;
+    let (letter, digits) = number.split_at_checked(1)?;
+    let numbered =
+        letter.as_bytes()[0].is_ascii_uppercase() && !digits.is_empty() && digits.bytes().all(|b| b.is_ascii_digit());
+    numbered.then(|| Row { number, words: cells.next().unwrap_or("").trim_matches('"') })
+}
+
+/// The sentences by number, without marks of emphasis.
+fn numbered(text: &str) -> BTreeMap<String, String> {
+    let lines = text.lines().filter_map(|line| line.strip_prefix("- ")?.split_once(". "));
+    lines.map(|(number, sentence)| (number.to_string(), without_marks(sentence))).collect()
+}
+
+fn without_marks(text: &str) -> String {
+    text.replace(['`', '*', '"'], "").split_whitespace().collect::<Vec<_>>().join(" ")
+}
+
+fn opens(all: &BTreeMap<String, String>, row: &Row) -> Result<(), String> {
+    let words = without_marks(row.words.trim_end_matches(['.', '…', ' ']));
+    match all.get(row.number) {
+        None => Err(format!("document 01 has no sentence {}", row.number)),
+        Some(_) if words.is_empty() => Err(format!("the row of {} does not quote its sentence", row.number)),
+        Some(sentence) if !sentence.starts_with(&words) => {
+            Err(format!("{} opens with other words: {sentence}", row.number))
+        }
+        Some(_) => Ok(()),
+    }
+}
+
+/// Whether a path, or a name in the file at a path, is there.
+fn exists(top: &Path, name: &str) -> Result<(), String> {
+    let (path, inner) = match name.split_once('#') {
+        Some((path, inner)) => (path, Some(inner)),
+        None => (name, None),
+    };
+    let full = top.join(path.trim_start_matches('/'));
+    if !full.exists() {
+        return Err(format!("{path} is not there"));
+    }
+    let Some(inner) = inner else { return Ok(()) };
+    let text = fs::read_to_string(&full).map_err(|e| format!("{path}: {e}"))?;
+    if has_name(&without_comments(path, &text), inner) {
+        Ok(())
+    } else {
+        Err(format!("{path} has no {inner}"))
+    }
+}
+
+/// A source without its comments.
+fn without_comments(path: &str, text: &str) -> String {
+    let mark = match path.rsplit('.').next() {
+        Some("rt" | "rs" | "c" | "h") => "//",
+        Some("antt") => "--",
+        _ => return text.to_string(),
+    };
+    text.lines().map(|line| line.split(mark).next().unwrap_or("")).collect::<Vec<_>>().join("\n")
+}
+
+/// Whether a name stands in a text by itself, and not as part of a longer one.
+fn has_name(text: &str, name: &str) -> bool {
+    let part = |c: char| c.is_alphanumeric() || "_-'".contains(c);
+    !name.is_empty()
+        && text.match_indices(name).any(|(at, _)| {
+            let before = text[..at].chars().next_back().is_none_or(|c| !part(c));
+            before && text[at + name.len()..].chars().next().is_none_or(|c| !part(c))
+        })
+}
