@@ -5,17 +5,42 @@ mod record;
 use libc::STDOUT_FILENO;
 use record::Record;
 
+// How many records the library answers, and how many not; the first of those by its line, 0 where there is none.
 struct Tally {
     passed: u64,
     failed: u64,
+    first: u64,
+}
+
+// One more record, of that outcome. The counts wrap, which no list reaches, so that they need no bound in the loop.
+fn counted(tally: Tally, agrees: bool) -> Tally {
+    let passed = tally.passed;
+    let failed = tally.failed;
+    let first = tally.first;
+    if agrees {
+        return Tally {
+            passed: std::num::wrapping_add_u64(passed, 1),
+            failed,
+            first,
+        };
+    }
+    let line = std::num::wrapping_add_u64(passed, 1);
+    Tally {
+        passed,
+        failed: std::num::wrapping_add_u64(failed, 1),
+        first: if failed == 0 { line } else { first },
+    }
 }
 
 // A proved loop has to end: it counts its turns down from more records than a list has. A record that cannot be read or
 // that no operation knows ends the run.
 fn replay() -> Tally {
     let mut words = [0u32; 512];
-    let mut passed = 0;
-    let mut failed = 0;
+    let mut tally = Tally {
+        passed: 0,
+        failed: 0,
+        first: 0,
+    };
     let mut turns = 1_000_000u64;
     while turns > 0 {
         turns -= 1;
@@ -25,27 +50,32 @@ fn replay() -> Tally {
                 break;
             }
             Record::Broken => {
-                failed += 1;
+                let broken = counted(tally, false);
+                tally = broken;
                 break;
             }
             Record::Words(n) => {
                 if n != operations::length_of(&words) {
-                    failed += 1;
+                    let unknown = counted(tally, false);
+                    tally = unknown;
                     break;
                 }
-                if operations::agrees(&words) {
-                    passed += 1;
-                } else {
-                    failed += 1;
-                }
+                let agrees = operations::agrees(&words);
+                let more = counted(tally, agrees);
+                tally = more;
             }
         }
     }
-    Tally { passed, failed }
+    tally
 }
 
 fn main() {
     let tally = replay();
+    if tally.failed > 0 {
+        io::write_all(STDOUT_FILENO, b"the first that is not answered: line ");
+        io::print_decimal(STDOUT_FILENO, tally.first);
+        io::write_all(STDOUT_FILENO, b"\n");
+    }
     io::print_decimal(STDOUT_FILENO, tally.passed);
     io::write_all(STDOUT_FILENO, b" passed, ");
     io::print_decimal(STDOUT_FILENO, tally.failed);

@@ -1,14 +1,14 @@
--- `replay::replay` is safe and ends: with each turn one record is counted. Assumes nothing.
-use Prim.Native.Nat.{_+_, _≤_}
+-- `replay::replay` is safe and ends: its turns are counted down. Assumes nothing.
+use Prim.Native.Nat.{_≤_}
 use borrow.Author.Needs.{needs}
 use Rattle.replay.proofs.replay.Statement.{statement}
 use Rattle.replay.proofs.replay.Tie as tie
 
 abbrev Inv-loop : tie.InvT-loop
-Inv-loop words₀ passed₀ failed₀ turns₀ words passed failed turns = passed + failed + turns ≤ 1000000
+Inv-loop words₀ tally₀ turns₀ words tally turns = turns ≤ 1000000
 
 abbrev μ-loop : tie.MeasureT-loop
-μ-loop words₀ passed₀ failed₀ turns₀ words passed failed turns = turns
+μ-loop words₀ tally₀ turns₀ words tally turns = turns
 
 pub replay-spec : {M : Type 1} → statement M
 replay-spec =
@@ -26,27 +26,21 @@ replay-spec =
     (λ c. search needs)
     -- enum-told-2
     (λ c. search needs)
-    -- add-failed
-    (λ c. search needs)
+    -- counted-requires
+    (λ c κs. search needs)
     -- enum-known-next
     (λ c. search needs)
     -- length-of-requires
     (λ c κs. search needs)
-    -- add-failed-2
-    (λ c. search needs)
+    -- counted-requires-2
+    (λ c κs. search needs)
     -- agrees-requires
     (λ c κs. search needs)
-    -- add-passed
-    (λ c. search needs)
+    -- counted-requires-3
+    (λ c κs. search needs)
     -- loop-less
     (λ c. search needs)
     -- loop-again
-    (λ c. search needs)
-    -- add-failed-3
-    (λ c. search needs)
-    -- loop-less-2
-    (λ c. search needs)
-    -- loop-again-2
     (λ c. search needs)
     -- returns
     (λ c. search needs)
