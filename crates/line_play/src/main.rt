@@ -1,9 +1,11 @@
 // A line of 10,000 turns, played for both ends by `line::play`: sets that are refused, single losses, long silences, and rows of arrivals.
 // After each row of arrivals it writes the largest difference of the two ends in units of 1/64, rounded up, beside the bound of the theorem in
 // crates/line/proofs/Rejoin.antt, (3/8)^n times the difference before and one unit, with one unit more for the rounding; and whether it held.
+// Then the widest gap that the built-in rows can make, which shows how little slack the theorem has: 13 arrivals do not bring it down to two units, 1/32.
 ghost use Prim.Native.Nat.{_<_};
 use line::Ends;
 use line::Turn;
+use spec_lsp::decode;
 
 pub struct State {
     pub seed: u64,
@@ -255,6 +257,40 @@ fn finish(s: State) {
     total(b"sets refused: ", t.refused);
 }
 
+// The coder is given what an index makes of its own set, so that it sends that index.
+fn repeated(ends: Ends, index: u32, brings: bool) -> Ends {
+    let coder = ends.coder;
+    let wanted = decode::decode_lsp_freq(index, coder);
+    let given = wanted.lines;
+    let played = line::play(ends, Turn { given, brings });
+    played.ends
+}
+
+fn driven(ends: Ends, index: u32, turns: u64, brings: bool) -> Ends {
+    let mut e = ends;
+    for _ in 0..turns {
+        let next = repeated(e, index, brings);
+        e = next;
+    }
+    e
+}
+
+// Frequency 4 has its least number in row 7 of band 1 and its greatest in row 255. Both ends go down as far as they can, the coder comes
+// up as far as it can while nothing arrives, and then everything does.
+fn widest_gap(begin: Ends) {
+    let down = driven(begin, 1792, 40, true);
+    let wide = driven(down, 65280, 40, false);
+    let rest = begin.coder;
+    let coder = wide.coder;
+    let decoder = wide.decoder;
+    let before = apart(coder, decoder);
+    total(b"furthest from rest: ", ceiling(apart(coder, rest)));
+    let thirteen = driven(wide, 65280, 13, true);
+    let _ = report(13, before, thirteen);
+    let fifteen = driven(thirteen, 65280, 2, true);
+    let _ = report(15, before, fifteen);
+}
+
 fn main() {
     let begin = line::begin();
     let rest = begin.coder;
@@ -273,4 +309,5 @@ fn main() {
         s = t;
     }
     finish(s);
+    widest_gap(begin);
 }
