@@ -111,10 +111,10 @@ fn check_sets(p: [f32; 10], prev: [f32; 10]) -> u32
         return 5;
     }
     if !float::all_finite(&prev) {
-        return 5;
+        return 5; // before any magnitude is looked at
     }
     if float::any_exceeds(&p, 65536.0) {
-        return 6;
+        return 6; // once both sets are finite
     }
     if float::any_exceeds(&prev, 65536.0) {
         return 6;

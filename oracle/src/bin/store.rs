@@ -1,7 +1,7 @@
 //! Writes the Rust's answers that the program `replay` holds the library to.
 
 use oracle::args::{fail, Args};
-use oracle::given::hex;
+use oracle::given::{hex, parse};
 use oracle::operations::{named, Operation, OPERATIONS};
 use oracle::random::Random;
 use std::io::Write;
@@ -17,10 +17,13 @@ A record is a line of words: the operation's number, its input, its status, its 
 digits and a space, or a line feed after the last of a record: word i of the file starts at byte 9 x i. A single is
 its bits; a double, a length, place, half or choice is two words, high then low; a list of samples is its length in
 one word and then its singles. A NaN among the results is 7fc00000. Refused results are zeros, memories as given.
-Half of an operation's records go through the limits. The Rust's calls of cos, acos and log10 are replaced by
-document 01's rules.
+Half of an operation's records go through the limits; the inputs of oracle/aimed.txt come last, in its order. The Rust's
+calls of cos, acos and log10 are replaced by document 01's rules.
 Exit status: 0 done; 1 the Rust is not at hand; 2 bad usage.
 ";
+
+/// Inputs that are aimed at one fault each.
+const AIMED: &str = include_str!("../../aimed.txt");
 
 fn main() {
     let mut args = Args::new(HELP);
@@ -33,16 +36,24 @@ fn main() {
     args.end();
     let rust = oracle::both::rust().unwrap_or_else(|why| fail(&format!("not compared: {why}")));
     let mut text = String::new();
-    for operation in chosen {
+    let mut store = |operation: &Operation, given: Vec<u32>| {
+        let (status, answer) = operation.whole_answer(&rust.ruled, &given);
+        let mut words = vec![operation.number];
+        words.extend(given);
+        words.push(status);
+        words.extend(operation.plain(&answer));
+        text += &(hex(&words) + "\n");
+    };
+    for operation in &chosen {
         for turn in turns(operation) {
             let mut random = Random::new(seed, operation.number, turn);
-            let given = operation.source.draw(&mut random, turn);
-            let (status, answer) = operation.whole_answer(&rust.ruled, &given);
-            let mut words = vec![operation.number];
-            words.extend(given);
-            words.push(status);
-            words.extend(operation.plain(&answer));
-            text += &(hex(&words) + "\n");
+            store(operation, operation.source.draw(&mut random, turn));
+        }
+    }
+    for line in AIMED.lines().filter(|line| !line.is_empty() && !line.starts_with('#')) {
+        let (operation, given) = parse(line).unwrap_or_else(|why| fail(&format!("oracle/aimed.txt: {why}: {line}")));
+        if chosen.iter().any(|one| one.number == operation.number) {
+            store(operation, given);
         }
     }
     if let Err(why) = std::io::stdout().write_all(text.as_bytes()) {
