@@ -125,6 +125,11 @@ fn cosine_cases(tally: Tally) -> Tally {
         b"cosine -1 takes step 2^24",
         cosines::step_is(-1.0, 16777216),
     );
+    let t = case(
+        t,
+        b"the cosine of entry 1,302 takes step 1,302 x 4,096",
+        cosines::steps_of_an_entry(),
+    );
     let t = case(t, b"a NaN takes step 2^24", cosines::step_of_nan());
     let t = case(
         t,
@@ -137,10 +142,20 @@ fn cosine_cases(tally: Tally) -> Tally {
         b"step 2^24 has cosine -1",
         cosines::cosine_is(16777216, 0xbf80_0000),
     );
-    case(
+    let t = case(
+        t,
+        b"step 3 x 2^23 has cosine 0",
+        cosines::cosine_is(25165824, 0),
+    );
+    let t = case(
         t,
         b"step 2^25 has cosine 1",
         cosines::cosine_is(33554432, 0x3f80_0000),
+    );
+    case(
+        t,
+        b"step 5 has an angle by the single pi",
+        cosines::angle_of_step_5(),
     )
 }
 
