@@ -112,8 +112,7 @@ fn narrowing_cases(tally: Tally) -> Tally {
     case(t, b"-0 narrows to -0", narrowing::keeps_minus_zero())
 }
 
-// 0x3f80_0000 is 1, 0xbf80_0000 is −1.
-fn cosine_cases(tally: Tally) -> Tally {
+fn step_cases(tally: Tally) -> Tally {
     let t = case(tally, b"cosine 2 takes step 0", cosines::step_is(2.0, 0));
     let t = case(
         t,
@@ -130,9 +129,13 @@ fn cosine_cases(tally: Tally) -> Tally {
         b"the cosine of entry 1,302 takes step 1,302 x 4,096",
         cosines::steps_of_an_entry(),
     );
-    let t = case(t, b"a NaN takes step 2^24", cosines::step_of_nan());
+    case(t, b"a NaN takes step 2^24", cosines::step_of_nan())
+}
+
+// 0x3f80_0000 is 1, 0xbf80_0000 is −1.
+fn cosine_cases(tally: Tally) -> Tally {
     let t = case(
-        t,
+        tally,
         b"step 0 has cosine 1",
         cosines::cosine_is(0, 0x3f80_0000),
     );
@@ -166,7 +169,8 @@ fn main() {
     });
     let second = stage_cases(first);
     let third = narrowing_cases(second);
-    let tally = cosine_cases(third);
+    let fourth = step_cases(third);
+    let tally = cosine_cases(fourth);
     io::print_decimal(STDOUT_FILENO, tally.passed);
     io::write_all(STDOUT_FILENO, b" passed, ");
     io::print_decimal(STDOUT_FILENO, tally.failed);
