@@ -120,8 +120,11 @@ uint32_t g7231_quantise_lsp_freq(const float p[G7231_ORDER], const float prev[G7
  *   6 G7231_MAGNITUDE: any of it above 65,536 in magnitude */
 uint32_t g7231_decode_lsp_freq(uint32_t index, const float prev[G7231_ORDER], float set[G7231_ORDER]);
 
-/* Lines at least a spacing apart, in at most ten passes; *converged is 1 where
- * a pass met no pair too close, else 0.
+/* Spreads lines that stand closer than a spacing, in at most ten passes;
+ * *converged is 1 where a pass met no pair too close, else 0. Afterwards the first
+ * line is held off 0 and the last off half a circle, by half the spacing and at
+ * least 0.001 radians, which can bring them nearer to their neighbours again, or
+ * past them.
  * Takes:
  *   cosines: cosines
  *   spacing_hz: spacing, 0 to 400 Hz

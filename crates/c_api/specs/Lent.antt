@@ -1,5 +1,5 @@
 -- What a lent buffer holds after a door has answered: the answer's values where the status is 0, and else what it held before.
--- Document 01, B2. Assumes nothing.
+-- Added by design, with the refusals; document 01, B2. Assumes nothing.
 use Prim.Native.Nat.{ℕ, zero, suc}
 use mathlib.Core.Bool.{Bool, true, false}
 

@@ -1,2 +1,3 @@
+-- What lent buffers hold.
 pub mod Lent
 pub mod Memory

@@ -1,5 +1,5 @@
 -- The combined filter's memory as a caller lends it: four buffers.
--- Document 01, B60. Assumes nothing.
+-- Vocabulary of the doors, for §2.12's filter; document 01, B60. Assumes nothing.
 use mathlib.Core.List.{List}
 use lib.Ieee.{Float}
 use Rattle.combined.specs.declared.CombinedMem.{CombinedMem}

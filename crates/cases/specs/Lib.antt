@@ -1,1 +1,2 @@
+-- The marked cases.
 pub mod Marked

@@ -1,4 +1,5 @@
--- The cases that document 01 marks for proof (M), as one table of the definitions. E1 to E10, F5. Assumes nothing.
+-- The cases that document 01 marks for proof (M), as one table of the definitions.
+-- Added by design, each about the section of its definition; document 01, E1 to E10 and F5. Assumes nothing.
 use mathlib.Core.Path.{_≡_}
 use mathlib.Core.Bool.{Bool, true, false}
 use mathlib.Core.List.{List, [], _∷_, map}

@@ -1,6 +1,6 @@
--- The combined filter sample by sample (§2.12, equation 19): synthesis s[n] = x[n] - Σ aq[k+1] s[n-k-1], formant weighting of s, and harmonic noise
--- shaping of the weighted f: f[n] - beta f[n-lag]. Each stage hands its sample to the next before the sample after it is begun.
--- Document 01, B59. Assumes nothing.
+-- The combined filter sample by sample: synthesis s[n] = x[n] − Σ aq[k+1] s[n−k−1], formant weighting of s, and harmonic noise shaping of
+-- the weighted f: f[n] − beta f[n−lag]. Each stage hands its sample to the next before the sample after it is begun.
+-- §2.12 (eq. 19); document 01, B59. Assumes nothing.
 use Prim.Native.Nat.{ℕ, suc, _-_}
 use mathlib.Core.List.{List, [], _∷_, _++_}
 use lib.ListN.{length}

@@ -1,5 +1,6 @@
--- The memory of the combined filter (§2.12): ten values each of synthesis, of the weighting filter's zeros and of its poles, most recent first, and the
--- history of harmonic inputs, oldest first. Document 01, B60, B61 and I7. Assumes nothing.
+-- The memory of the combined filter: ten values each of synthesis, of the weighting filter's zeros and of its poles, most recent first,
+-- and the history of harmonic inputs, oldest first.
+-- §2.12 (eq. 19), with §2.19; document 01, B60, B61 and I7. Assumes nothing.
 use Prim.Native.Nat.{ℕ, _-_}
 use mathlib.Core.List.{List, [], _∷_}
 use lib.ListN.{length, drop}

@@ -1,5 +1,5 @@
--- One subframe through the combined filter (§2.12).
--- Document 01, B59 to B62. Assumes nothing.
+-- One subframe through the combined filter: refusals, the cascade, and the memory afterwards.
+-- §2.12, and as §2.13 and §2.19 use it; document 01, B59 to B62. Assumes nothing.
 use Prim.Native.Nat.{ℕ}
 use mathlib.Core.Bool.{Bool, _||_}
 use mathlib.Core.List.{List, [], _∷_}

@@ -1,5 +1,5 @@
--- The combined filter's response to the unit impulse, from rest (§2.12).
--- Document 01, B59. Assumes nothing.
+-- The combined filter's response to the unit impulse, from rest.
+-- §2.12; document 01, B59. Assumes nothing.
 use mathlib.Core.List.{List, _∷_}
 use lib.Ieee.{Float}
 use Rattle.float.specs.Single.{single}

@@ -1,5 +1,6 @@
--- What demand 3 claims of a coder and a decoder, clause by clause (document 01, B29 and D1 to D12): for every list of turns, whatever is given to the coder and
--- whichever indices the line brings. Differences are counted in whole units of 2^-149, and the values they are taken of are finite. Assumes nothing.
+-- What demand 3 claims of a coder and a decoder, clause by clause: for every list of turns, whatever is given to the coder and whichever
+-- indices the line brings. Differences are counted in whole units of 2^-149, and the values they are taken of are finite.
+-- Added by design, around §2.5 and §2.6; document 01, B29 and D1 to D12. Assumes nothing.
 use Prim.Native.Nat.{ℕ, _+_, _*_, _^_, _≤_, _<_}
 use mathlib.Core.Path.{_≡_}
 use mathlib.Core.Bool.{false}

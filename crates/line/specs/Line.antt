@@ -1,6 +1,7 @@
--- The line, turn by turn (document 01, D2 to D8, D10), over any two functions of the right shape: what a turn does to the sets of both ends, a run of turns,
--- and how many of its indices arrive and are lost. `Turn` (what the coder is given, and whether the line would bring its index) and `Ends` (each end's set) are the code's structs.
--- Assumes nothing.
+-- The line, turn by turn, over any two functions of the right shape: what a turn does to the sets of both ends, a run of turns, and how
+-- many of its indices arrive and are lost. `Turn` (what the coder is given, and whether the line would bring its index) and `Ends` (each
+-- end's set) are the code's structs.
+-- Added by design, around §2.5 and §2.6; document 01, D2 to D8 and D10. Assumes nothing.
 use Prim.Native.Nat.{ℕ, _+_}
 use mathlib.Core.Bool.{Bool, _&&_, not, cond}
 use mathlib.Core.List.{List, [], _∷_}

@@ -1,5 +1,5 @@
 -- `interpolate_lsp`: ten cosines between the previous frame's and this frame's.
--- Document 01, B42 and B43. Assumes nothing.
+-- §2.7 (eq. 8), §3.3; document 01, B42 and B43. Assumes nothing.
 use Prim.Native.Nat.{ℕ}
 use mathlib.Core.Bool.{Bool, _||_}
 use mathlib.Core.List.{List, [], _∷_}

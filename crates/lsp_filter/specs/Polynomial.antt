@@ -1,5 +1,5 @@
 -- `lsp_to_lpc`: the prediction filter whose line spectral pairs have these ten cosines, in singles.
--- Document 01, B44 and B45. Assumes nothing.
+-- §2.7, after the interpolation; the Rust names no equation for it; document 01, B44 and B45. Assumes nothing.
 use Prim.Native.Nat.{ℕ, zero, suc, _+_, _-_, _*_}
 use mathlib.Core.Bool.{cond}
 use mathlib.Core.List.{List, [], _∷_}

@@ -1,6 +1,6 @@
--- The weighted squared error of a code row (§2.5, eq. 4.5): over the row's numbers, in order and in singles, (weight × d) × d with d = target − number.
--- Document 01, B26; the order of the operations is the Rust's. A row is any list of numbers, so that a caller's own rows are measured alike.
--- Assumes nothing.
+-- The weighted squared error of a code row: over the row's numbers, in order and in singles, (weight × d) × d with d = target − number. The
+-- order of the operations is the Rust's. A row is any list of numbers, so that a caller's own rows are measured alike.
+-- §2.5 (eq. 4.5); document 01, B26. Assumes nothing.
 use Prim.Native.Nat.{ℕ, _+_}
 use mathlib.Core.List.{List}
 use lib.IntN.{ℤ, pos}

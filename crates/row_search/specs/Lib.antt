@@ -1,3 +1,4 @@
+-- The error of a code row, and the search over rows. One notion a file.
 pub mod Error
 pub mod Search
 pub mod inner

@@ -1,5 +1,6 @@
--- The search: of a number of rows the one whose error is smallest, and of those the first (document 01, B26). Only an error below the smallest one so far
--- takes its place, from infinity on. Its laws are in `proofs/Least.antt`. Assumes nothing.
+-- The search: of a number of rows the one whose error is smallest, and of those the first. Only an error below the smallest one so far
+-- takes its place, from infinity on. Its laws are in `proofs/Least.antt`.
+-- §2.5 (the least of eq. 4.5); document 01, B26. Assumes nothing.
 use Prim.Native.Nat.{ℕ, zero, suc}
 use mathlib.Core.Bool.{false, cond}
 use mathlib.Core.List.{List}

@@ -1,5 +1,6 @@
--- The decoder of a line set (§2.6, steps 1 and 2): (0.375 × (prev − dc) + dc) + row, in singles, after refusals 5 and 6 on the previous set.
--- Document 01, B31 to B33; `rows` is any list of code rows, and the resting set dc stands in spec_tables. Assumes nothing.
+-- The decoder of a line set: (0.375 × (prev − dc) + dc) + row, in singles, after refusals 5 and 6 on the previous set. `rows` is any list
+-- of code rows, and the resting set dc stands in spec_tables.
+-- §2.6, steps 1 and 2 (eq. 3.3, 4.4); document 01, B31 to B33. Assumes nothing.
 use Prim.Native.Nat.{ℕ}
 use mathlib.Core.Bool.{Bool}
 use mathlib.Core.List.{List, [], _∷_, _++_}

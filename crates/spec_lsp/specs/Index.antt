@@ -1,5 +1,6 @@
--- The 24-bit index of a line set: band 0's row × 65,536 + band 1's × 256 + band 2's, and the three rows again from an index, bits above the 24 ignored.
--- Document 01, B27 and B32; §2.5. That each undoes the other is in `proofs/Bytes.antt`. Assumes nothing.
+-- The 24-bit index of a line set: band 0's row × 65,536 + band 1's × 256 + band 2's, and the three rows again from an index, bits above
+-- the 24 ignored. That each undoes the other is in `proofs/Bytes.antt`.
+-- §2.5, which leaves the order of the bytes open: band 0 first is the Rust's code; document 01, B27 and B32. Assumes nothing.
 use Prim.Native.Nat.{ℕ, _+_, _*_, _/_, _%_}
 use mathlib.Core.List.{List, [], _∷_}
 use lib.ListN.{getD}

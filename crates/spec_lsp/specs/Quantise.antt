@@ -1,5 +1,6 @@
--- The quantiser of a line set (§2.5, steps 2 to 5): in each band the row of smallest weighted squared error against what the previous set does not foretell.
--- Document 01, B23 to B30; `rows` is any list of code rows. The set is the decoder's by definition. Assumes nothing.
+-- The quantiser of a line set: in each band the row of smallest weighted squared error against what the previous set does not foretell.
+-- `rows` is any list of code rows. The set is the decoder's by definition.
+-- §2.5, steps 2 to 5 (eq. 3.3, 3.4, 4.1, 4.3, 4.5 and 5); document 01, B23 to B30, which cites §2.6. Assumes nothing.
 use Prim.Native.Nat.{ℕ, zero, suc, _+_}
 use mathlib.Core.Bool.{Bool, _||_, cond}
 use mathlib.Core.List.{List, [], _∷_, map}

@@ -1,7 +1,6 @@
--- The three bands of the line quantiser (§2.6; document 01, B25: "Band starts and lengths are 0,3; 3,3; 6,4, each with 256 rows"): where a band's
--- frequencies stand among the ten, how many there are, and where its rows begin among 2,560 numbers that hold the bands one after the other.
--- `placeOf` is the Rust's LSP_BAND_INFO.
--- Assumes nothing.
+-- The three bands of the line quantiser: where a band's frequencies stand among the ten, how many there are, and where its rows begin
+-- among 2,560 numbers that hold the bands one after the other. Starts and lengths are 0, 3; 3, 3; 6, 4, the Rust's LSP_BAND_INFO, and
+-- every band has 256 rows. §2.6 (the split of eq. 4.1); document 01, B25, I5 and I15. Assumes nothing.
 use mathlib.Core.List.{List, [], _∷_}
 use Prim.Native.Nat.{ℕ, _*_}
 use Rattle.spec_tables.specs.declared.BandPlace.{BandPlace}

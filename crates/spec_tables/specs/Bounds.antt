@@ -1,6 +1,6 @@
--- Numbers between two bounds, and the one test that a list of code rows must pass: no number outside −8,192..8,192. It is over any list, since
--- rows that are not built in must pass the same; the claim of the line is about every list that passes.
--- Assumes nothing.
+-- Numbers between two bounds, and the one test that a list of code rows must pass: no number outside −8,192..8,192. It is over any list,
+-- since rows that are not built in must pass the same; the claim of the line is about every list that passes.
+-- Vocabulary of the claim, added by design: the Recommendation has no such test. Document 01, B29 and F7. Assumes nothing.
 use mathlib.Core.Bool.{Bool, true, _&&_}
 use mathlib.Core.List.{List, [], _∷_}
 use Prim.Native.Nat.{ℕ}

@@ -1,3 +1,4 @@
+-- The Recommendation's tables, the bands, and a code row. One notion a file.
 pub mod Band
 pub mod Codebook
 pub mod Rows

@@ -1,6 +1,6 @@
--- A code row (document 01, B25 and J7): numbers that stand one after the other in a list. The search, the decoder, the claim of the line and
--- every law about rows read a row as it is cut out here, whatever list holds it: the built-in numbers or a caller's own.
--- Assumes nothing.
+-- A code row: numbers that stand one after the other in a list. The search, the decoder, the claim of the line and every law about rows
+-- read a row as it is cut out here, whatever list holds it: the built-in numbers or a caller's own.
+-- §2.6; document 01, B25 and J7. Assumes nothing.
 use mathlib.Core.List.{List, _++_}
 use Prim.Native.Nat.{ℕ, _+_, _-_, _*_}
 use lib.IntN.{ℤ, pos}

@@ -1,6 +1,6 @@
 -- The small tables of the Recommendation, by the Rust's names: LSP_DC_PREDICTED_FREQ_Q15 (§2.6), LPC_BINOMIAL_LAG_WINDOW_Q15 (§2.4),
 -- PERCEPTUAL_ZERO_Q15 and PERCEPTUAL_POLE_Q15 (§2.9). No number is negative. LSP_BAND_INFO is `placeOf` in Band.antt.
--- Assumes nothing.
+-- Document 01, B7, B29, B46 and I5. Assumes nothing.
 use mathlib.Core.List.{List, [], _∷_, map}
 use lib.IntN.{ℤ, pos}
 

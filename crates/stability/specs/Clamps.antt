@@ -1,5 +1,6 @@
--- The outer clamps (§3.10), after the passes: the first angle is at least a margin, the last at most π less the
--- margin, which is the greater of half the spacing and 0.001. Document 01, B38. Assumes nothing.
+-- The outer clamps, after the passes: the first angle is at least a margin, the last at most π less the margin, which is the greater of
+-- half the spacing and 0.001.
+-- §2.6 and §3.10 as document 01 cites them; the Rust names no equation for the clamps; document 01, B38. Assumes nothing.
 use Prim.Native.Nat.{ℕ}
 use mathlib.Core.Bool.{cond}
 use mathlib.Core.List.{List}

@@ -1,6 +1,6 @@
--- The passes that spread lines apart (§2.6, §3.10): at most ten, each over the nine pairs of neighbours in turn, up
--- to the first one that finds no pair too close.
--- Document 01, B37 and B39. `delta` is the spacing as an angle. Assumes nothing.
+-- The passes that spread lines apart: at most ten, each over the nine pairs of neighbours in turn, up to the first one that finds no pair
+-- too close. `delta` is the spacing as an angle.
+-- §2.6 (eq. 6 to 7.3), §3.10; document 01, B37 and B39. Assumes nothing.
 use Prim.Native.Nat.{ℕ, suc}
 use mathlib.Core.Bool.{Bool, true, false, cond}
 use mathlib.Core.List.{List}

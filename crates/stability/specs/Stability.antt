@@ -1,5 +1,6 @@
--- The stability procedure whole (§2.6, §3.10): cosines to angles, the passes, the clamps, and back to cosines.
--- Document 01, B36 to B41. What `converged` tells is of the passes, before the clamps. Assumes nothing.
+-- The stability procedure whole: cosines to angles, the passes, the clamps, and back to cosines. What `converged` tells is of the passes,
+-- before the clamps.
+-- §2.6 (eq. 6 to 7.3), §3.10; document 01, B36 to B41. Assumes nothing.
 use Prim.Native.Nat.{ℕ}
 use mathlib.Core.Bool.{Bool, false}
 use mathlib.Core.List.{List, [], _∷_, map}

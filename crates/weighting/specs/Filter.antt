@@ -1,6 +1,6 @@
--- The formant perceptual weighting filter W(z) over one subframe (§2.8): f[n] = x[n] + Σ (wz[k] x[n-k-1] - wp[k] f[n-k-1]), the ten terms added one
--- after the other. A memory holds the ten values before a sample, most recent first.
--- Document 01, B46 and B47. Assumes nothing.
+-- The formant perceptual weighting filter W(z) over one subframe: f[n] = x[n] + Σ (wz[k] x[n−k−1] − wp[k] f[n−k−1]), the ten terms added
+-- one after the other. A memory holds the ten values before a sample, most recent first.
+-- §2.8; document 01, B46 and B47. Assumes nothing.
 use Prim.Native.Nat.{ℕ}
 use mathlib.Core.Bool.{Bool, not}
 use mathlib.Core.List.{List, [], _∷_, _++_}

@@ -1,5 +1,6 @@
--- Taps of the formant perceptual weighting filter W(z) = A(z/γ1) / A(z/γ2) (§2.8): coefficient k + 1 of the predictor, times the table's entry k / 32,768.
--- Document 01, B46 and B47. Assumes nothing.
+-- Taps of the formant perceptual weighting filter W(z) = A(z/γ1) / A(z/γ2): coefficient k + 1 of the predictor, times the table's
+-- entry k / 32,768.
+-- §2.8 (eq. 11), the tables §2.9; document 01, B46 and B47. Assumes nothing.
 use Prim.Native.Nat.{ℕ, suc}
 use mathlib.Core.List.{List, [], _∷_}
 use lib.IntN.{ℤ, pos}

@@ -1,4 +1,5 @@
 // Frequencies on their way to steps and cosines.
+use crate::lists;
 
 // Halfway between steps 1 and 2, where rounding would take 2. Its narrowed cosine does not tell the two apart: the step is
 // what is tested.
@@ -15,11 +16,12 @@ pub fn taken(frequency: f32) -> bool {
     (answer.status == 0) & float::same_bits(cosines[9], 0x3f80_0000)
 }
 
-// A refusal's lines are zeros, where frequency 0 would give cosine 1.
+// All ten of a refusal's lines are zeros, where frequency 0 would give cosine 1.
 pub fn refused(frequency: f32) -> bool {
     let mut freq = [0.0f32; 10];
     freq[9] = frequency;
     let answer = convert::lsp_freq_to_cosines(freq);
     let cosines = answer.lines;
-    (answer.status == 6) & float::same_bits(cosines[0], 0)
+    let zeros = lists::all_zero(&cosines);
+    (answer.status == 6) & zeros
 }

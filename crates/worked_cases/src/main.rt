@@ -1,5 +1,9 @@
-// The worked cases of document 01 that are run, E11 to E14: one line each, and how many passed.
+// The worked cases of document 01 that are run, E11 to E14, and the limits of narrowing and of the cosine rule: one line
+// each, and how many passed.
+mod cosines;
 mod frequencies;
+mod lists;
+mod narrowing;
 mod stages;
 
 use libc::STDOUT_FILENO;
@@ -44,12 +48,12 @@ fn frequency_cases(tally: Tally) -> Tally {
     );
     let t = case(
         t,
-        b"the next frequency above 65,536 is refused with 6",
+        b"the next frequency above 65,536 is refused with 6 and ten zeros",
         frequencies::refused(65536.0078125),
     );
     case(
         t,
-        b"the next frequency below -65,536 is refused with 6",
+        b"the next frequency below -65,536 is refused with 6 and ten zeros",
         frequencies::refused(-65536.0078125),
     )
 }
@@ -60,7 +64,11 @@ fn stage_cases(tally: Tally) -> Tally {
         b"equal frequencies have weights of 1",
         stages::equal_weights(),
     );
-    let t = case(t, b"179 samples are refused with 1", stages::short_window());
+    let t = case(
+        t,
+        b"179 samples are refused with 1 and zeros",
+        stages::short_window(),
+    );
     let t = case(
         t,
         b"ratio 133 at lag 36 loses to 100 at lag 18",
@@ -78,8 +86,79 @@ fn stage_cases(tally: Tally) -> Tally {
     );
     case(
         t,
-        b"bare filter, lag 18, factor 0.25: 1, and -0.25 at sample 18",
+        b"bare filter, lag 18, factor 0.25: 1, -0.25 at sample 18, and 58 zeros",
         stages::bare_filter(),
+    )
+}
+
+fn narrowing_cases(tally: Tally) -> Tally {
+    let t = case(tally, b"a NaN narrows to a NaN", narrowing::keeps_nan());
+    let t = case(
+        t,
+        b"infinity narrows to infinity",
+        narrowing::keeps_infinity(),
+    );
+    let t = case(t, b"2^128 narrows to infinity", narrowing::overflows());
+    let t = case(
+        t,
+        b"ties narrow to the even single",
+        narrowing::ties_to_even(),
+    );
+    let t = case(
+        t,
+        b"2^-149, the smallest single, is kept",
+        narrowing::keeps_subnormals(),
+    );
+    case(t, b"-0 narrows to -0", narrowing::keeps_minus_zero())
+}
+
+fn step_cases(tally: Tally) -> Tally {
+    let t = case(tally, b"cosine 2 takes step 0", cosines::step_is(2.0, 0));
+    let t = case(
+        t,
+        b"cosine 0 takes step 2^23",
+        cosines::step_is(0.0, 8388608),
+    );
+    let t = case(
+        t,
+        b"cosine -1 takes step 2^24",
+        cosines::step_is(-1.0, 16777216),
+    );
+    let t = case(
+        t,
+        b"the cosine of entry 1,302 takes step 1,302 x 4,096",
+        cosines::steps_of_an_entry(),
+    );
+    case(t, b"a NaN takes step 2^24", cosines::step_of_nan())
+}
+
+// 0x3f80_0000 is 1, 0xbf80_0000 is −1.
+fn cosine_cases(tally: Tally) -> Tally {
+    let t = case(
+        tally,
+        b"step 0 has cosine 1",
+        cosines::cosine_is(0, 0x3f80_0000),
+    );
+    let t = case(t, b"step 2^23 has cosine 0", cosines::cosine_is(8388608, 0));
+    let t = case(
+        t,
+        b"step 2^24 has cosine -1",
+        cosines::cosine_is(16777216, 0xbf80_0000),
+    );
+    let t = case(
+        t,
+        b"step 3 x 2^23 has cosine 0",
+        cosines::cosine_is(25165824, 0),
+    );
+    let t = case(
+        t,
+        b"step 2^25 has cosine 1",
+        cosines::cosine_is(33554432, 0x3f80_0000),
+    );
+    case(
+        t,
+        b"step 5 has an angle by the single pi",
+        cosines::angle_of_step_5(),
     )
 }
 
@@ -88,7 +167,10 @@ fn main() {
         passed: 0,
         failed: 0,
     });
-    let tally = stage_cases(first);
+    let second = stage_cases(first);
+    let third = narrowing_cases(second);
+    let fourth = step_cases(third);
+    let tally = cosine_cases(fourth);
     io::print_decimal(STDOUT_FILENO, tally.passed);
     io::write_all(STDOUT_FILENO, b" passed, ");
     io::print_decimal(STDOUT_FILENO, tally.failed);

@@ -1,4 +1,5 @@
 // The stages' own cases: weights, a short window, lags that compete, and the bare filter.
+use crate::lists;
 use lags::Best;
 
 fn is_one(x: f32) -> bool {
@@ -12,10 +13,14 @@ pub fn equal_weights() -> bool {
     first & is_one(w[5]) & is_one(w[6]) & is_one(w[7]) & is_one(w[8]) & is_one(w[9])
 }
 
+// A refusal's eleven coefficients are zeros, where silence would have a leading 1.
 pub fn short_window() -> bool {
     let samples = [0.0f32; 179];
     let answer = lpc::lpc_analysis(&samples);
-    answer.status == 1
+    let set = answer.set;
+    let a = set.a;
+    let zeros = lists::all_zero(&a);
+    (answer.status == 1) & zeros & float::same_bits(set.k2, 0)
 }
 
 // Whether a lag with that ratio takes the place of lag 18 with the ratio 100.
@@ -29,14 +34,13 @@ pub fn takes_over(lag: u32, ratio: f64) -> bool {
     best.lag == lag
 }
 
-// A filter with no prediction and no weighting, lag 18 and factor 0.25: 1, and −0.25 at sample 18.
+// A filter with no prediction and no weighting, lag 18 and factor 0.25: 1, and −0.25 at sample 18, and zeros elsewhere.
 pub fn bare_filter() -> bool {
     let mut aq = [0.0f32; 11];
     aq[0] = 1.0;
     let none = [0.0f32; 10];
     let answer = impulse::combined_impulse_response(aq, none, none, 18, 0.25);
     let out = answer.out;
-    (answer.status == 0)
-        & float::same_bits(out[0], 0x3f80_0000)
-        & float::same_bits(out[18], 0xbe80_0000)
+    let response = lists::is_bare_response(&out);
+    (answer.status == 0) & response
 }

@@ -1,5 +1,5 @@
--- Harmonic noise shaping over all harmonic inputs at once, so that the history is moved once a subframe. Its law, that these are the cascade's outputs:
--- `out-shaped` in proofs/History.antt. Assumes nothing.
+-- Harmonic noise shaping over all harmonic inputs at once, so that the history is moved once a subframe. Its law, that these are the
+-- cascade's outputs: `out-shaped` in proofs/History.antt. Vocabulary of the code, for §2.12's last stage. Assumes nothing.
 use Prim.Native.Nat.{ℕ, _+_, _-_}
 use mathlib.Core.List.{List}
 use lib.Ieee.{Float}

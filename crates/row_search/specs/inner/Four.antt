@@ -1,4 +1,5 @@
--- The search four rows at a time, as the code runs it; `proofs/Searching.antt` has that it finds what `Search` says. Assumes nothing.
+-- The search four rows at a time, as the code runs it; `proofs/Searching.antt` has that it finds what `Search` says.
+-- Vocabulary of the code, for §2.5's search. Assumes nothing.
 use Prim.Native.Nat.{ℕ, _+_}
 use lib.Ieee.{Float}
 use Rattle.row_search.specs.declared.Smallest.{Smallest}

@@ -1,5 +1,5 @@
 -- A delay: the ten values of a memory, oldest first, and after them those of one subframe, so that nothing is moved from sample to sample.
--- Assumes nothing.
+-- Vocabulary of the code, for §2.8's filter. Assumes nothing.
 use Prim.Native.Nat.{ℕ, _+_, _-_}
 use mathlib.Core.Path.{_≡_}
 use mathlib.Core.List.{List}
