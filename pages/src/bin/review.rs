@@ -1,7 +1,7 @@
 //! Checks that what docs/REVIEW.md names is there.
 
 use pages::args::{fail, top, Args};
-use pages::{crates, read};
+use pages::{crates, quoted, read};
 use std::collections::{BTreeMap, BTreeSet};
 use std::fs;
 use std::path::{Path, PathBuf};
@@ -162,11 +162,6 @@ fn edits_there(top: &Path) -> std::io::Result<BTreeSet<String>> {
         }
     }
     Ok(all)
-}
-
-/// What stands in backquotes.
-fn quoted(text: &str) -> impl Iterator<Item = &str> {
-    text.lines().flat_map(|line| line.split('`').skip(1).step_by(2))
 }
 
 /// The names in backquotes that are paths.
