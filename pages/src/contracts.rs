@@ -224,8 +224,11 @@ fn operation<'a>(row: &Row, sources: &'a [Source]) -> Result<Operation<'a>, Stri
                 let (found, said) = (words(&other.right), words(&one.right));
                 return Err(format!("by its contract {} is `{found}`, and {PAGE} says `{said}`", words(side)));
             }
-            Some(_) if !mentions(&one.right, row.definition) => {
+            Some(_) if !names(&one.right).contains(row.definition) => {
                 return Err(format!("{} is {}, which is not {}", words(side), named(&one.right), row.definition));
+            }
+            Some(_) if names(&one.right).iter().any(|name| !to_be_read(name)) => {
+                return Err(format!("{} is {}, which no reader has read", words(side), named(&one.right)));
             }
             Some(_) => {}
         }
@@ -353,11 +356,20 @@ fn field(term: &Term) -> Option<&str> {
     (!rest.is_empty() && rest.chars().all(|c| c.is_alphanumeric() || c == '_')).then_some(name)
 }
 
-fn mentions(terms: &[Term], name: &str) -> bool {
-    terms.iter().any(|term| match term {
-        Term::Word(word) => word == name,
-        Term::Group(inner) => mentions(inner, name),
-    })
+/// The imported names in a term, each with its file.
+fn names(terms: &[Term]) -> BTreeSet<&str> {
+    terms
+        .iter()
+        .flat_map(|term| match term {
+            Term::Word(word) => BTreeSet::from_iter(Some(word.as_str()).filter(|word| word.contains('#'))),
+            Term::Group(inner) => names(inner),
+        })
+        .collect()
+}
+
+/// Whether a contract may rest on a name: not on one of a proof, nor on one of the code's own in specs/inner.
+fn to_be_read(name: &str) -> bool {
+    !name.starts_with("crates/") || name.contains("/specs/") && !name.contains("/specs/inner/")
 }
 
 /// A term as a reader knows it: an imported name without its file.
@@ -371,16 +383,5 @@ fn words(terms: &[Term]) -> String {
 
 /// The same, with the file of each imported name.
 fn named(terms: &[Term]) -> String {
-    fn files<'a>(terms: &'a [Term], all: &mut BTreeSet<&'a str>) {
-        for term in terms {
-            match term {
-                Term::Word(word) => all.extend(Some(word.as_str()).filter(|word| word.contains('#'))),
-                Term::Group(inner) => files(inner, all),
-            }
-        }
-    }
-    let mut all = BTreeSet::new();
-    files(terms, &mut all);
-    let all: Vec<&str> = all.into_iter().collect();
-    format!("`{}` ({})", words(terms), all.join(", "))
+    format!("`{}` ({})", words(terms), Vec::from_iter(names(terms)).join(", "))
 }

@@ -166,6 +166,8 @@ fn another_definition() {
         "Rattle.half.specs.Half",
         "imports _≡_ from crates/half/specs/Half.antt",
     );
+    let inner = "Half.{halved, told};\nghost use Rattle.half.specs.inner.Half.{pair}";
+    found(OPERATIONS, "Half.{halved, pair, told}", inner, "which no reader has read");
     found(OPERATIONS, "halve(a: &[f32]", "halve(halved: Mem, a: &[f32]", "halve: ");
     found(DOORS, "Rattle.half.specs.Half", "Rattle.half.specs.Other", "g7231_bare_halve: its status is");
     found(DOORS, "Rattle.c_api.specs.Lent", "Rattle.half.specs.Half", "g7231_bare_halve: d_b afterwards");
