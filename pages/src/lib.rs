@@ -4,6 +4,7 @@
 #[path = "../../oracle/src/args.rs"]
 pub mod args;
 pub mod contracts;
+pub mod declared;
 pub mod rattle;
 
 use args::fail;
