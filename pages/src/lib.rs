@@ -1,8 +1,11 @@
-//! What both programs read: the repository's files, and the crates that it lists.
+//! What the programs read: the repository's files, the crates that it lists, its sources and its pages.
 
 /// The same arguments and ends as oracle's programs have; its file, since this package has no dependency.
 #[path = "../../oracle/src/args.rs"]
 pub mod args;
+pub mod contracts;
+pub mod declared;
+pub mod rattle;
 
 use args::fail;
 use std::fs;
@@ -17,4 +20,9 @@ pub fn crates(top: &Path) -> Vec<String> {
     let text = read(&top.join("crates.txt"));
     let lines = text.lines().map(|line| line.split('#').next().unwrap_or(""));
     lines.filter_map(|line| Some(line.split_once(':')?.0.trim().to_string())).collect()
+}
+
+/// What stands in backquotes.
+pub fn quoted(text: &str) -> impl Iterator<Item = &str> {
+    text.lines().flat_map(|line| line.split('`').skip(1).step_by(2))
 }

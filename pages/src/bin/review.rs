@@ -1,7 +1,8 @@
 //! Checks that what docs/REVIEW.md names is there.
 
 use pages::args::{fail, top, Args};
-use pages::{crates, read};
+use pages::declared::declares;
+use pages::{crates, quoted, read};
 use std::collections::{BTreeMap, BTreeSet};
 use std::fs;
 use std::path::{Path, PathBuf};
@@ -15,7 +16,7 @@ review: check that every file, theorem, edit and test that docs/REVIEW.md names 
 
 A row of the page is `| C5 | \"Cosine of step k\" | .. |`: a sentence's number, its first words, what answers for it.
 A name in backquotes with a slash and no space is a path from the top of the repository, or a path and a name in that file, as
-`crates/cosine/specs/Cosine.antt#cosine`. Each path must exist, and each name must stand in its file outside comments.
+`crates/cosine/specs/Cosine.antt#cosine`. Each path must exist, and each name must be declared in its file: an import or a use of it does not count.
 Under each letter the numbers run from 1 with none missing and none twice. Where the numbered sentences are at hand, each
 row's words must open its sentence, and every sentence must have a row.
 The other pages of docs/ and README.md are held to their paths and names too, but for what a build or a checkout makes
@@ -164,11 +165,6 @@ fn edits_there(top: &Path) -> std::io::Result<BTreeSet<String>> {
     Ok(all)
 }
 
-/// What stands in backquotes.
-fn quoted(text: &str) -> impl Iterator<Item = &str> {
-    text.lines().flat_map(|line| line.split('`').skip(1).step_by(2))
-}
-
 /// The names in backquotes that are paths.
 fn named(line: &str) -> impl Iterator<Item = &str> {
     quoted(line).filter(|name| name.contains('/') && !name.contains(' '))
@@ -211,7 +207,7 @@ fn opens(all: &BTreeMap<String, String>, row: &Row) -> Result<(), String> {
     }
 }
 
-/// Whether a path, or a name in the file at a path, is there.
+/// Whether a path is there, and a name declared in the file at it.
 fn exists(top: &Path, name: &str) -> Result<(), String> {
     let (path, inner) = match name.split_once('#') {
         Some((path, inner)) => (path, Some(inner)),
@@ -223,29 +219,8 @@ fn exists(top: &Path, name: &str) -> Result<(), String> {
     }
     let Some(inner) = inner else { return Ok(()) };
     let text = fs::read_to_string(&full).map_err(|e| format!("{path}: {e}"))?;
-    if has_name(&without_comments(path, &text), inner) {
-        Ok(())
-    } else {
-        Err(format!("{path} has no {inner}"))
+    match declares(path, &text, inner)? {
+        true => Ok(()),
+        false => Err(format!("{path} does not declare {inner}")),
     }
-}
-
-/// A source without its comments.
-fn without_comments(path: &str, text: &str) -> String {
-    let mark = match path.rsplit('.').next() {
-        Some("rt" | "rs" | "c" | "h") => "//",
-        Some("antt") => "--",
-        _ => return text.to_string(),
-    };
-    text.lines().map(|line| line.split(mark).next().unwrap_or("")).collect::<Vec<_>>().join("\n")
-}
-
-/// Whether a name stands in a text by itself, and not as part of a longer one.
-fn has_name(text: &str, name: &str) -> bool {
-    let part = |c: char| c.is_alphanumeric() || "_-'".contains(c);
-    !name.is_empty()
-        && text.match_indices(name).any(|(at, _)| {
-            let before = text[..at].chars().next_back().is_none_or(|c| !part(c));
-            before && text[at + name.len()..].chars().next().is_none_or(|c| !part(c))
-        })
 }

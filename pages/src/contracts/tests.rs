@@ -1,0 +1,227 @@
+//! A sample holds; altered in one place, it is found out. So is the repository with any one `ensures` left out.
+
+use super::*;
+use crate::args::top;
+
+const SAMPLE: &str = "
+| operation | definition | contract | theorem |
+|---|---|---|---|
+| `halve` | `crates/half/specs/Half.antt#halved` | `r ≡ halved (pair a way) mem` | .. |
+
+| form | definition | contract |
+|---|---|---|
+| `halve_lent` | `crates/half/specs/Half.antt#halved` | `r ≡ told (halved way mem)`, `now (mem .exit) ≡ halved way mem .mem` |
+| `rest` | `crates/half/specs/Rest.antt#resting` | `r ≡ resting` |
+";
+
+const OPERATIONS: &str = "
+ghost use mathlib.Core.Path.{_≡_};
+ghost use Rattle.half.specs.Half.{halved, pair, told};
+ghost use Rattle.half.specs.Rest.{resting};
+
+pub fn halve(a: &[f32], way: u32, mem: Mem) -> Halved
+    ensures { λ r. ⌜ r ≡ halved (pair (now (a .entry)) way) mem ⌝ }
+{
+}
+
+pub fn halve_lent(way: u32, mem: &mut Mem) -> Told
+    ensures { λ r. ⌜ (r ≡ told (halved way (now (mem .entry)))) × (now (mem .exit) ≡ halved way (now (mem .entry)) .mem) ⌝ }
+{
+}
+
+pub fn rest() -> [f32; 10]
+    ensures { λ r. ⌜ r ≡ resting ⌝ }
+{
+}
+";
+
+const DOORS: &str = r#"
+ghost use mathlib.Core.Path.{_≡_};
+ghost use Rattle.half.specs.Half.{halved, pair};
+ghost use Rattle.half.specs.Rest.{resting};
+ghost use Rattle.c_api.specs.Lent.{lent, flag};
+ghost use Rattle.c_api.specs.Memory.{memory};
+
+// r is a buffer here, and s the status
+#[no_mangle]
+pub extern "C" fn g7231_bare_halve(a: &[f32], way: u32, r: &mut [f32; 4], d_b: &mut [f32; 4], yes: &mut u32) -> u32
+    ensures status { λ s. ⌜ s ≡ halved (pair (now (a .entry)) way) (memory (now (r .entry)) (now («d_b» .entry))) .status ⌝ }
+    ensures low { λ s. ⌜ now (r .exit) ≡ lent s (now (r .entry)) (halved (pair (now (a .entry)) way) (memory (now (r .entry)) (now («d_b» .entry))) .mem .low) ⌝ }
+    ensures high { λ s. ⌜ now («d_b» .exit) ≡ lent s (now («d_b» .entry)) (halved (pair (now (a .entry)) way) (memory (now (r .entry)) (now («d_b» .entry))) .mem .high) ⌝ }
+    ensures told { λ s. ⌜ now (yes .exit) ≡ lent s (now (yes .entry)) (flag (halved (pair (now (a .entry)) way) (memory (now (r .entry)) (now («d_b» .entry))) .yes)) ⌝ }
+{
+}
+
+#[no_mangle]
+pub extern "C" fn g7231_rest(set: &mut [f32; 10]) -> u32
+    ensures status { λ r. ⌜ r ≡ 0 ⌝ }
+    ensures lines { λ r. ⌜ now (set .exit) ≡ resting ⌝ }
+{
+}
+"#;
+
+const TABLE: &str = r#"
+    Door {
+        name: "halve",
+        parameters: &[
+            Parameter { name: "a", way: Way::Read, element: Element::F32, many: Many::Slice(4), role: "speech" },
+            Parameter { name: "r", way: Way::Kept, element: Element::F32, many: Many::Fixed(4), role: "speech" },
+            Parameter { name: "d_b", way: Way::Kept, element: Element::F32, many: Many::Fixed(4), role: "speech" },
+            Parameter { name: "yes", way: Way::Made, element: Element::U32, many: Many::One, role: "" },
+        ],
+        refusals: &[1, 5],
+        safe: safe_halve,
+        bare: bare_halve,
+    },
+    Door {
+        name: "rest",
+        parameters: &[
+            Parameter { name: "set", way: Way::Made, element: Element::F32, many: Many::Fixed(10), role: "" },
+        ],
+        refusals: &[],
+        safe: safe_rest,
+        bare: safe_rest,
+    },
+"#;
+
+fn faults(page: &str, table: &str, operations: &str, doors: &str) -> Vec<String> {
+    let texts = [("crates/half/src/lib.rt", operations), ("crates/c_api/src/lib.rt", doors)];
+    check(page, table, &texts.map(|(path, text)| (path.to_string(), text.to_string())).into()).faults
+}
+
+/// Alters one place of one of the texts, and looks for words in what is then said.
+fn found(text: &str, old: &str, new: &str, words: &str) {
+    assert_eq!(text.matches(old).count(), 1, "{old}");
+    let altered = text.replace(old, new);
+    let with = |one: &str| if one == text { altered.clone() } else { one.to_string() };
+    let said = faults(&with(SAMPLE), &with(TABLE), &with(OPERATIONS), &with(DOORS));
+    assert!(said.iter().any(|fault| fault.contains(words)), "{old} -> {new}: {said:?}");
+}
+
+#[test]
+fn the_sample_holds() {
+    assert_eq!(faults(SAMPLE, TABLE, OPERATIONS, DOORS), [""; 0]);
+}
+
+#[test]
+fn an_operation_that_says_less() {
+    let is = "r ≡ halved (pair (now (a .entry)) way) mem";
+    let whole = format!("    ensures {{ λ r. ⌜ {is} ⌝ }}\n");
+    found(OPERATIONS, &whole, "", "halve: it ensures nothing");
+    found(OPERATIONS, &format!("⌜ {is} ⌝"), "⊤ₛ", "halve: `λ r. ⊤ₛ` is no equation");
+    found(
+        OPERATIONS,
+        is,
+        "r .status ≡ halved (pair (now (a .entry)) way) mem .status",
+        "halve: it ensures nothing of the result",
+    );
+    found(OPERATIONS, is, "r ≡ r", "halve: by its contract the result is `the result`");
+    found(
+        OPERATIONS,
+        is,
+        "r ≡ halved (pair (now (a .entry)) 0) mem",
+        "halve: by its contract the result is `halved (pair a 0) mem`",
+    );
+    for weaker in [format!("way ≡ 0 → {is}"), format!("(way ≡ 0) → ({is})"), format!("(r ≡ r) ∨ ({is})")] {
+        found(OPERATIONS, is, &weaker, "halve: ");
+    }
+    for more in ["ensures { λ r. ⌜ way ≡ way ⌝ }", "assumes { ⌜ way ≡ way ⌝ }", "ensures { λ r. ⌜ r ≡ r ⌝ }"]
+    {
+        found(OPERATIONS, &whole, &format!("{whole}    {more}\n"), "halve: ");
+    }
+    let second = " × (now (mem .exit) ≡ halved way (now (mem .entry)) .mem)";
+    found(OPERATIONS, second, "", "halve_lent: it ensures nothing of mem afterwards");
+    found(
+        OPERATIONS,
+        "(now (mem .entry)) .mem",
+        "(now (mem .exit)) .mem",
+        "halve_lent: by its contract mem afterwards is",
+    );
+    found(OPERATIONS, "pub fn halve_lent", "fn halve_lent", "halve_lent: there are 0 public functions");
+}
+
+#[test]
+fn a_condition() {
+    for clause in ["requires { ⌜ way ≡ 0 ⌝ }", "requires named { ⌜ way ≡ 0 ⌝ }", "ghost { ℕ }"] {
+        let before = |head: &str| format!("{head}    {clause}\n");
+        found(OPERATIONS, "-> Halved\n", &before("-> Halved\n"), "halve: it has a clause");
+        found(
+            DOORS,
+            "yes: &mut u32) -> u32\n",
+            &before("yes: &mut u32) -> u32\n"),
+            "g7231_bare_halve: it has a clause",
+        );
+        found(DOORS, ".mem .low) ⌝ }\n", &before(".mem .low) ⌝ }\n"), "g7231_bare_halve: it has a clause");
+    }
+}
+
+#[test]
+fn another_definition() {
+    let other = "halve: the result is `halved (pair a way) mem` (crates/half/specs/Other.antt#halved";
+    found(OPERATIONS, "specs.Half.{halved, pair, told}", "specs.Other.{halved, pair, told}", other);
+    found(OPERATIONS, "{halved, pair", "{quartered as halved, pair", "crates/half/specs/Half.antt#quartered");
+    found(
+        OPERATIONS,
+        "mathlib.Core.Path",
+        "Rattle.half.specs.Half",
+        "imports _≡_ from crates/half/specs/Half.antt",
+    );
+    let inner = "Half.{halved, told};\nghost use Rattle.half.specs.inner.Half.{pair}";
+    found(OPERATIONS, "Half.{halved, pair, told}", inner, "which no reader has read");
+    found(OPERATIONS, "halve(a: &[f32]", "halve(halved: Mem, a: &[f32]", "halve: ");
+    found(DOORS, "Rattle.half.specs.Half", "Rattle.half.specs.Other", "g7231_bare_halve: its status is");
+    found(DOORS, "Rattle.c_api.specs.Lent", "Rattle.half.specs.Half", "g7231_bare_halve: d_b afterwards");
+    found(DOORS, "Rattle.c_api.specs.Memory", "Rattle.half.specs.Half", "g7231_bare_halve: its status is");
+    found(DOORS, "now (set .exit) ≡ resting", "now (set .exit) ≡ halved", "g7231_rest: set afterwards");
+}
+
+#[test]
+fn a_door_that_says_less() {
+    for line in DOORS.lines().filter(|line| line.contains("ensures")) {
+        found(DOORS, &format!("{line}\n"), "", ": it ensures nothing of ");
+        let (head, _) = line.split_once('⌜').unwrap();
+        found(DOORS, line, &format!("{head}⊤ₛ }}"), "is no equation");
+    }
+    found(DOORS, "r ≡ 0", "r ≡ r", "g7231_rest: its status is");
+    found(DOORS, " .yes)) ⌝", " .status)) ⌝", "g7231_bare_halve: yes afterwards");
+    found(DOORS, ".mem .high)", ".mem .low)", "g7231_bare_halve: r afterwards is what another buffer holds");
+    found(DOORS, "lent s (now (r .entry))", "lent 0 (now (r .entry))", "g7231_bare_halve: r afterwards");
+    found(DOORS, "lent s (now (r .entry))", "lent s (now (r .exit))", "g7231_bare_halve: r afterwards");
+    found(DOORS, "(now («d_b» .entry))) .status", "(now (r .entry))) .status", "g7231_bare_halve: ");
+}
+
+#[test]
+fn what_the_page_or_the_header_leaves_out() {
+    let row = SAMPLE.lines().find(|line| line.starts_with("| `halve`")).unwrap();
+    found(SAMPLE, row, "", "g7231_bare_halve: docs/TRUST.md has no row");
+    found(SAMPLE, "`r ≡ halved (pair a way) mem`", "", "halve: docs/TRUST.md has no equation for the result");
+    found(SAMPLE, ", `now (mem .exit) ≡ halved way mem .mem`", "", "halve_lent: docs/TRUST.md has no equation for mem");
+    found(TABLE, "refusals: &[1, 5]", "refusals: &[]", "g7231_bare_halve: its status is");
+    found(TABLE, "refusals: &[],", "refusals: &[5],", "g7231_rest: its status is");
+    found(TABLE, "\"yes\", way: Way::Made", "\"yes\", way: Way::Read", "g7231_bare_halve: it may write");
+}
+
+#[test]
+fn the_repository() {
+    let top = top();
+    let (page, table, texts) = (read(&top.join(PAGE)), described(&top), sources(&top));
+    // a fault that is there already is for the program to tell
+    let faults = check(&page, &table, &texts).faults;
+    let named: Vec<&str> = rows(&page).iter().map(|row| row.name).collect();
+    let mut left_out = 0;
+    for (path, text) in &texts {
+        let mut name = "";
+        for line in text.lines() {
+            name = line.find("fn ").map_or(name, |at| line[at + 3..].split('(').next().unwrap_or(""));
+            let listed = path.starts_with("crates/c_api/") || named.contains(&name);
+            let told = faults.iter().any(|fault| fault.contains(name));
+            if listed && !told && line.trim_start().starts_with("ensures") {
+                let mut altered = texts.clone();
+                altered.insert(path.clone(), text.replace(&format!("{line}\n"), ""));
+                assert_ne!(check(&page, &table, &altered).faults, faults, "{path}: {line}");
+                left_out += 1;
+            }
+        }
+    }
+    assert!(!faults.is_empty() || left_out > named.len(), "{left_out}");
+}
