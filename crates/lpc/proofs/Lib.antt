@@ -1,2 +1,4 @@
--- Laws that callers cite.
+-- Laws behind the functions' proofs, and those that callers cite.
+mod Orders
 pub mod Leading
+pub mod Stops

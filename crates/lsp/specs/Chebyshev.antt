@@ -1,6 +1,6 @@
 -- The two sides of a prediction filter, A(z) ± z⁻¹¹ A(1/z) without their trivial factors, as series of Chebyshev
 -- polynomials of the cosine.
--- Document 01, B13 and B14. Assumes nothing.
+-- §2.5, step 1; document 01, B13 and B14. Assumes nothing.
 use Prim.Native.Nat.{ℕ, zero, suc, _-_}
 use mathlib.Core.Bool.{cond}
 use mathlib.Core.List.{List}

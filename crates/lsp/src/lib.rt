@@ -2,7 +2,8 @@
 ghost use mathlib.Core.Path.{_≡_};
 ghost use Rattle.float.specs.Table.{table};
 ghost use Rattle.quarter.specs.Quarter.{quarterTable};
-ghost use Rattle.roots.specs.Root.{rootsIn};
+ghost use Rattle.roots.specs.Root.{rootsOf};
+ghost use Rattle.roots.specs.inner.Scan.{rootsIn};
 ghost use Rattle.lsp.specs.Chebyshev.{seeded, plusNext, minusNext, factor};
 ghost use Rattle.lsp.specs.Pairs.{inTurn, falling, paired, lpcToLsp};
 use float::Lines;
@@ -49,7 +50,7 @@ fn factors(f: &[f32; 6]) -> [f64; 6]
 
 // The two sides' roots in turn.
 fn take_turns(p: [f32; 5], q: [f32; 5]) -> [f32; 10]
-    ensures { λ r. ⌜ r ≡ table 10 (inTurn p q) ⌝ }
+    ensures { λ r. ⌜ r ≡ inTurn p q ⌝ }
 {
     let mut out = [0.0f32; 10];
     for k in 0..5 {
@@ -61,7 +62,7 @@ fn take_turns(p: [f32; 5], q: [f32; 5]) -> [f32; 10]
 
 // The roots of both sides, each refined from where it was met.
 fn ten_roots(c: &[f64; 6], p: Crossings, d: &[f64; 6], q: Crossings) -> [f32; 10]
-    ensures { λ r. ⌜ r ≡ table 10 (inTurn (table 5 (rootsIn (now (c .entry)) p)) (table 5 (rootsIn (now (d .entry)) q))) ⌝ }
+    ensures { λ r. ⌜ r ≡ inTurn (table 5 (rootsIn (now (c .entry)) p)) (table 5 (rootsIn (now (d .entry)) q)) ⌝ }
 {
     let x = roots::refine(c, p);
     let y = roots::refine(d, q);
@@ -81,7 +82,7 @@ fn is_falling(x: &[f32; 10]) -> bool
 // The roots of the two sides in turn. A refusal here is due only once the roots are known; where a side has too few, none is refined.
 fn pair(t: &[u32; 2049], c: &[f64; 6], d: &[f64; 6]) -> Lines
     requires { ⌜ now t ≡ quarterTable ⌝ }
-    ensures { λ r. ⌜ r ≡ paired (now (c .entry)) (now (d .entry)) ⌝ }
+    ensures { λ r. ⌜ r ≡ paired (rootsOf (now (c .entry))) (rootsOf (now (d .entry))) ⌝ }
 {
     let p = roots::scan(t, c);
     if p.count < 5 {

@@ -1,5 +1,5 @@
 -- The value of a series of Chebyshev polynomials of the cosine, by Clenshaw's rule.
--- Document 01, B14. Assumes nothing.
+-- §2.5, step 1; document 01, B14 and J3. Assumes nothing.
 use mathlib.Core.List.{List}
 use lib.Ieee.{Float, nan}
 use lib.ListN.{getD}

@@ -1,62 +1,49 @@
--- The roots of a side: found between neighbours of 1,025 points from cosine 1 down to −1, and refined by halving.
+-- The roots of one side, a series c: what a walk over 1,025 points, from cosine 1 down to −1, records of it. They are doubles still.
+-- §2.5, step 1, with its grid and its halvings as the Rust has them; the points by the cosine rule are added by design.
 -- Document 01, B15 and B16. Assumes nothing.
-use Prim.Native.Nat.{ℕ, _+_, _-_, _*_, _^_}
-use mathlib.Core.Bool.{Bool, cond, _&&_, _||_}
-use mathlib.Core.List.{List}
+use Prim.Native.Nat.{ℕ, _-_, _*_, _^_}
+use mathlib.Core.Bool.{cond}
+use mathlib.Core.List.{List, [], _∷_, _++_}
 use lib.Dec.{ltb}
-use lib.Ieee.{Float, nan, binary64, ofInt, eq, lt}
-use lib.ListN.{getD, set, replicate}
+use lib.Ieee.{Float, binary64, ofInt, eq, lt}
+use lib.ListN.{length}
 use Rattle.float.specs.Loop.{over}
-use Rattle.float.specs.Narrow.{narrow}
 use Rattle.float.specs.Double.{_⊞_, _⊠_, _⧄_, double}
 use Rattle.quarter.specs.Quarter.{entry}
-use Rattle.roots.specs.declared.Bracket.{Bracket}
-use Rattle.roots.specs.declared.Crossings.{Crossings}
 use Rattle.roots.specs.Clenshaw.{valueAt}
 
 -- x(i) = cosine table entry 4i / 2^30
 unfoldable pub point : ℕ → Float
 point i = ofInt binary64 (entry (4 * i)) ⧄ double (2 ^ 30) 1
 
--- the value at x(i)
-unfoldable pub there : List Float → ℕ → Float
-there c i = valueAt c (point i)
-
--- a root is met: the value before is zero, or its product with the value here is negative
-unfoldable pub met : Float → Float → Bool
-met before here = eq before (double 0 1) || lt (before ⊠ here) (double 0 1)
-
--- the points that a root was met between, x(i) low and x(i−1) high
-unfoldable pub noted : ℕ → Crossings → Crossings
-noted i s = record { count = s .count + 1; low = set (s .low) (s .count) (point i); high = set (s .high) (s .count) (point (i - 1)) }
-
--- i goes upward, and five are enough
-unfoldable pub scanned : List Float → ℕ → Crossings → Crossings
-scanned c i s = cond (ltb (s .count) 5 && met (there c (i - 1)) (there c i)) (noted i s) s
-
-unfoldable pub noCrossings : Crossings
-noCrossings = record { count = 0; low = replicate 5 (double 0 1); high = replicate 5 (double 0 1) }
-
-unfoldable pub crossings : List Float → Crossings
-crossings c = over 1 1025 (scanned c) noCrossings
-
--- ---- halving
-unfoldable pub middle : Bracket → Float
-middle s = double 1 2 ⊠ (s .low ⊞ s .high)
+-- ---- halving: a low and a high end
+unfoldable pub middle : Float × Float → Float
+middle (low, high) = double 1 2 ⊠ (low ⊞ high)
 
 -- the middle replaces the high end if its value times the low end's is negative, else the low end
-unfoldable pub halved : List Float → Bracket → Bracket
-halved c s =
-    let m = middle s in
-    let b = lt (valueAt c m ⊠ s .value) (double 0 1) in
-    record { low = cond b (s .low) m; high = cond b m (s .high); value = cond b (s .value) (valueAt c m) }
+unfoldable pub halved : List Float → Float × Float → Float × Float
+halved c (low, high) =
+    let m = middle (low, high) in
+    cond (lt (valueAt c m ⊠ valueAt c low) (double 0 1)) (low, m) (m, high)
 
-unfoldable pub bracket : List Float → Float → Float → Bracket
-bracket c low high = record { low = low; high = high; value = valueAt c low }
+-- the middle of what 50 halvings leave
+unfoldable pub rootBetween : List Float → Float → Float → Float
+rootBetween c low high = middle (over 0 50 (λ k. halved c) (low, high))
 
--- the high end where its value is zero; else 50 halvings, and the middle of what remains
-unfoldable pub rootIn : List Float → Float → Float → Float
-rootIn c low high = narrow (cond (eq (valueAt c high) (double 0 1)) high (middle (over 0 50 (λ k. halved c) (bracket c low high))))
+-- ---- the walk
+-- what x(i) adds: the point before it where the value there is zero; otherwise, where the product of the two points' values is
+-- negative, the root between them
+unfoldable pub recorded : List Float → ℕ → List Float
+recorded c i =
+    let high = point (i - 1) in
+    let low = point i in
+    cond (eq (valueAt c high) (double 0 1)) (high ∷ [])
+    (cond (lt (valueAt c high ⊠ valueAt c low) (double 0 1)) (rootBetween c low high ∷ []) [])
 
-unfoldable pub rootsIn : List Float → Crossings → ℕ → Float
-rootsIn c s k = rootIn c (getD (s .low) k nan) (getD (s .high) k nan)
+-- five are enough
+unfoldable pub walked : List Float → ℕ → List Float → List Float
+walked c i found = cond (ltb (length found) 5) (found ++ recorded c i) found
+
+-- i = 1, 2, .., 1024
+unfoldable pub rootsOf : List Float → List Float
+rootsOf c = over 1 1025 (walked c) []

@@ -1,4 +1,5 @@
-// The roots of a cosine series: bracketed between neighbours of 1,025 points from cosine 1 down to −1, and each bracket halved fifty times.
+// The roots of a cosine series: bracketed between neighbours of 1,025 points from cosine 1 down to −1, and each bracket halved fifty
+// times. Scan and halvings together are the walk of `rootsOf`.
 ghost use mathlib.Core.Path.{_≡_};
 ghost use mathlib.Core.Bool.{cond};
 ghost use Prim.Native.Nat.{_+_, _≤_, _<_};
@@ -9,7 +10,9 @@ ghost use Rattle.float.specs.Double.{double};
 ghost use Rattle.float.specs.Narrow.{narrow};
 ghost use Rattle.quarter.specs.Quarter.{quarterTable};
 ghost use Rattle.roots.specs.Clenshaw.{clenshawStep, valueAt};
-ghost use Rattle.roots.specs.Root.{point, met, crossings, middle, halved, bracket, rootsIn};
+ghost use Rattle.roots.specs.Root.{point};
+ghost use Rattle.roots.specs.inner.Scan.{met, crossings, rootsIn};
+ghost use Rattle.roots.specs.inner.Bracket.{bracket, bracketMiddle, bracketHalved};
 
 // One step of Clenshaw's rule.
 fn step(x: f64, b1: f64, b2: f64, c: f64) -> f64
@@ -113,7 +116,7 @@ fn pick(first: bool, x: f64, y: f64) -> f64
 }
 
 fn halve(c: &[f64; 6], s: Bracket) -> Bracket
-    ensures { λ r. ⌜ r ≡ halved (now (c .entry)) s ⌝ }
+    ensures { λ r. ⌜ r ≡ bracketHalved (now (c .entry)) s ⌝ }
 {
     let m = 0.5 * (s.low + s.high);
     let v = value_at(c, m);
@@ -137,7 +140,7 @@ fn bracket_of(c: &[f64; 6], low: f64, high: f64) -> Bracket
 
 // What is recorded of two ends, once they have been halved to s.
 fn root_of(c: &[f64; 6], high: f64, s: Bracket) -> f32
-    ensures { λ r. ⌜ r ≡ narrow (cond (eq (valueAt (now (c .entry)) high) (double 0 1)) high (middle s)) ⌝ }
+    ensures { λ r. ⌜ r ≡ narrow (cond (eq (valueAt (now (c .entry)) high) (double 0 1)) high (bracketMiddle s)) ⌝ }
 {
     if value_at(c, high) == 0.0 {
         return float::narrow(high);

@@ -21,7 +21,7 @@ Under each letter the numbers run from 1 with none missing and none twice. Where
 row's words must open its sentence, and every sentence must have a row.
 The other pages of docs/ and README.md are held to their paths and names too, but for what a build or a checkout makes
 (what lies in a folder target/, or starts with ../) and folders.
-On docs/TRUST.md a name in backquotes as `lpc:silence_not_seen` is an edit, crates/lpc/must-fail/silence_not_seen.edit: each must
+On docs/TRUST.md a name in backquotes as `lpc:longer_window_taken` is an edit, crates/lpc/must-fail/longer_window_taken.edit: each must
 exist, and the page must name every edit that does. README.md must name in backquotes every crate that crates.txt lists.
 Exit status: 0 all is there; 1 something is missing; 2 bad usage.
 ";

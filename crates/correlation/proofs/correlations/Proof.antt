@@ -10,7 +10,8 @@ use Rattle.correlation.proofs.correlations.Statement.{statement}
 use Rattle.correlation.proofs.correlations.Tie as tie
 
 abbrev Inv-loop : tie.InvT-loop
-Inv-loop w s0₀ s1₀ s2₀ s3₀ s4₀ s5₀ s6₀ s7₀ s8₀ s9₀ s10₀ i₀ s0 s1 s2 s3 s4 s5 s6 s7 s8 s9 s10 i = (10 ≤ i) × (i ≤ 180) × (s0 ∷ s1 ∷ s2 ∷ s3 ∷ s4 ∷ s5 ∷ s6 ∷ s7 ∷ s8 ∷ s9 ∷ s10 ∷ [] ≡ table 11 (part w i))
+Inv-loop w s0₀ s1₀ s2₀ s3₀ s4₀ s5₀ s6₀ s7₀ s8₀ s9₀ s10₀ i₀ s0 s1 s2 s3 s4 s5 s6 s7 s8 s9 s10 i =
+    (10 ≤ i) × (i ≤ 180) × (s0 ∷ s1 ∷ s2 ∷ s3 ∷ s4 ∷ s5 ∷ s6 ∷ s7 ∷ s8 ∷ s9 ∷ s10 ∷ [] ≡ table 11 (part w i))
 
 abbrev μ-loop : tie.MeasureT-loop
 μ-loop w s0₀ s1₀ s2₀ s3₀ s4₀ s5₀ s6₀ s7₀ s8₀ s9₀ s10₀ i₀ s0 s1 s2 s3 s4 s5 s6 s7 s8 s9 s10 i = 180 - i
@@ -46,16 +47,7 @@ correlations-spec =
       search needs,
       search needs,
       begin _ _ _ _ _ _ _ _ _ _ _
-          (c .before .before .before .before .before .before .before .before .before .early .ensures)
-          (c .before .before .before .before .before .before .before .before .early2 .ensures)
-          (c .before .before .before .before .before .before .before .early3 .ensures)
-          (c .before .before .before .before .before .before .early4 .ensures)
-          (c .before .before .before .before .before .early5 .ensures)
-          (c .before .before .before .before .early6 .ensures)
-          (c .before .before .before .early7 .ensures)
-          (c .before .before .early8 .ensures)
-          (c .before .early9 .ensures)
-          (c .early10 .ensures),
+          (search) (search) (search) (search) (search) (search) (search) (search) (search) (search),
     ))
     -- mul-x
     (λ c. search needs)
@@ -126,6 +118,6 @@ correlations-spec =
     -- loop-less
     (λ c. search needs)
     -- loop-again
-    (λ c. (search needs, search needs, more _ _ _ _ _ _ _ _ _ _ _ _ _ (c .before .before .before .before .before .before .before .before .before .before .before .before .loop .inv .0) (c .before .before .before .before .before .before .before .before .before .before .before .before .loop .inv .2)))
+    (λ c. (search needs, search needs, search more))
     -- returns
     (λ c. all _ _ _ (omega arith) (c .before .loop .inv .2)))

@@ -1,5 +1,5 @@
 -- `correlation::window_in` meets its contract: up to i the array holds the windowed samples. Assumes nothing.
-use mathlib.Core.Path.{_≡_, refl, sym, ap, _∙_}
+use mathlib.Core.Path.{_≡_, refl, _∙_}
 use mathlib.Core.List.{List}
 use Prim.Native.Nat.{ℕ, _-_}
 use mir.Facts.{toZ-ofZ}
@@ -23,7 +23,9 @@ abbrev μ-loop : tie.MeasureT-loop
 μ-loop t x out₀ i₀ out i = 180 - i
 
 -- what one turn stores
-turn : (t : List ℤ) (x : List Float) (i : ℕ) (v : Float) → t ≡ hammingWindow → SFits w16 (getD t i (pos 0)) → v ≡ getD x i nan ⊗ (ofInt binary32 (toZ w16 (ofZ w16 (getD t i (pos 0)))) ⊘ ofBits binary32 1191182336) → v ≡ windowed x i
+turn : (t : List ℤ) (x : List Float) (i : ℕ) (v : Float) → t ≡ hammingWindow → SFits w16 (getD t i (pos 0)) →
+    v ≡ getD x i nan ⊗ (ofInt binary32 (toZ w16 (ofZ w16 (getD t i (pos 0)))) ⊘ ofBits binary32 1191182336) →
+    v ≡ windowed x i
 unfolding windowed single round ofBits
 turn t x i v e f h = h ∙ rw (toZ-ofZ f, e)
 
@@ -56,9 +58,11 @@ window-in-spec =
     -- loop-less
     (λ c. search needs)
     -- loop-again
-    (λ c. filled-more 180 _ _ _ _ (search needs)
-    (turn _ _ _ _ (c .before .before .before .before .before .before .before .pre .0) (record { sfits = c .before .before .f32-to-f64-with-nan-arg .given })
-    (c .f32-to-f64-with-nan .ensures))
-    (c .before .before .before .before .before .loop .inv))
+    (λ c.
+    let at-turn = c .before .before .before .before .before in
+    let entry = c .before .before .f32-to-f64-with-nan-arg in
+    filled-more 180 _ _ _ _ (search needs)
+    (turn _ _ _ _ (at-turn .before .before .pre .0) (record { sfits = entry .given }) (c .f32-to-f64-with-nan .ensures))
+    (at-turn .loop .inv))
     -- returns
-    (λ c. filled-all 180 _ _ _ (c .loop-test .left) (c .before .loop .inv)))
+    (λ c. search filled-all))

@@ -3,7 +3,6 @@ use mathlib.Core.Path.{refl}
 use lib.Ieee.{ofBits, round}
 use Rattle.float.specs.Double.{double}
 use Rattle.lpc.specs.Levinson.{inside}
-use borrow.Author.Needs.{needs}
 use Rattle.lpc.proofs.is_inside.Statement.{statement}
 use Rattle.lpc.proofs.is_inside.Tie as tie
 

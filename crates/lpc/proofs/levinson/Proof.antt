@@ -10,7 +10,8 @@ use Rattle.float.specs.Single.{single}
 use Rattle.float.specs.Double.{double}
 use Rattle.float.proofs.Loop.{Went, went-none, went-more, went-all}
 use Rattle.lpc.specs.declared.Recursion.{Recursion}
-use Rattle.lpc.specs.Levinson.{start, order, levinson}
+use Rattle.lpc.specs.Levinson.{after}
+use Rattle.lpc.specs.inner.Flagged.{start, order, flagged}
 use borrow.Author.Needs.{needs}
 use Rattle.lpc.proofs.levinson.Statement.{statement}
 use Rattle.lpc.proofs.levinson.Tie as tie
@@ -31,11 +32,11 @@ begun r = record {
 }
 
 begin : (r : List Float) → Went 1 11 (order r) (start r) 1 (begun r)
-unfolding start single double round ofBits
+unfolding start after single double round ofBits
 begin r = went-none 1 11 (order r) (start r) (lit≤ tt)
 
-all : (r : List Float) (i : ℕ) (s : Recursion) → 11 ≤ i → Went 1 11 (order r) (start r) i s → s ≡ levinson r
-unfolding levinson
+all : (r : List Float) (i : ℕ) (s : Recursion) → 11 ≤ i → Went 1 11 (order r) (start r) i s → s ≡ flagged r
+unfolding flagged
 all r i s h w = went-all 1 11 (order r) (start r) i s h w
 
 pub levinson-spec : {M : Type 1} → statement M

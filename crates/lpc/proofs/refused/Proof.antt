@@ -4,7 +4,6 @@ use lib.Ieee.{ofBits, round}
 use Rattle.float.specs.Single.{single}
 use Rattle.float.specs.Double.{double}
 use Rattle.lpc.specs.Analysis.{refusedSet}
-use borrow.Author.Needs.{needs}
 use Rattle.lpc.proofs.refused.Statement.{statement}
 use Rattle.lpc.proofs.refused.Tie as tie
 

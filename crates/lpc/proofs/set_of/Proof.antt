@@ -10,8 +10,9 @@ use Rattle.float.specs.Double.{double}
 use Rattle.float.specs.Narrow.{narrow}
 use Rattle.lpc.specs.declared.Recursion.{Recursion}
 use Rattle.lpc.specs.declared.LpcSet.{LpcSet}
-use Rattle.lpc.specs.Levinson.{levinson}
+use Rattle.lpc.specs.inner.Flagged.{flagged}
 use Rattle.lpc.specs.Analysis.{trivial, predicted, setOf}
+use Rattle.lpc.proofs.Orders.{flagged-coefficients, flagged-second}
 use borrow.Author.Needs.{needs}
 use Rattle.lpc.proofs.set_of.Statement.{statement}
 use Rattle.lpc.proofs.set_of.Tie as tie
@@ -26,11 +27,12 @@ silent : (r : List Float) → le (getD r 0 nan) (ofBits binary64 0) ≡ true →
 unfolding setOf trivial single double round ofBits
 silent r e = rw e
 
+-- the recursion, which the code runs with a flag
 spoken : (r : List Float) (s : Recursion) (a : List Float) → le (getD r 0 nan) (ofBits binary64 0) ≡ false →
-    s ≡ levinson r → a ≡ table 11 (λ i. narrow (getD (s .a) i nan)) →
+    s ≡ flagged r → a ≡ table 11 (λ i. narrow (getD (s .a) i nan)) →
     _≡_ {A = LpcSet} (record { a = a; r = r; k2 = s .k2 }) (setOf r)
 unfolding setOf predicted double round ofBits
-spoken r s a e f g = rw (e, ← f, g)
+spoken r s a e f g = rw (e, g, f, flagged-coefficients r e, flagged-second r e)
 
 pub set-of-spec : {M : Type 1} → statement M
 set-of-spec =

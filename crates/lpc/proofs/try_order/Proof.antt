@@ -8,7 +8,8 @@ use lib.Ieee.{Float, binary64, ofBits, round, le}
 use Rattle.float.specs.Double.{_⊠_, _⊟_, double}
 use Rattle.float.specs.Narrow.{narrow}
 use Rattle.lpc.specs.declared.Recursion.{Recursion}
-use Rattle.lpc.specs.Levinson.{reflection, raised, inside, advanced, tried, order}
+use Rattle.lpc.specs.Levinson.{reflection, raised, lessened, inside}
+use Rattle.lpc.specs.inner.Flagged.{advanced, tried, order}
 use borrow.Author.Needs.{needs}
 use Rattle.lpc.proofs.try_order.Statement.{statement}
 use Rattle.lpc.proofs.try_order.Tie as tie
@@ -27,7 +28,7 @@ module _ (r : List Float) (i : ℕ) (s : Recursion) (k : Float) (b : Bool) (n : 
 
   goes : (a : List Float) (q : Float) → b ≡ true → a ≡ raised i k (s .a) → q ≡ cond (eqb i 2) (narrow k) (s .k2) →
       _≡_ {A = Recursion} (record { a = a; error = left; k2 = q; stopped = le left (ofBits binary64 0) }) (order r i s)
-  unfolding order tried advanced double round ofBits
+  unfolding order tried advanced lessened double round ofBits
   goes a q t g h =
       let u : inside k ≡ true = sym f ∙ t in
       rw (n, ← e, u, g, h)

@@ -7,6 +7,7 @@ use lib.Ieee.{Float}
 use Rattle.float.specs.Table.{table}
 use Rattle.float.specs.declared.Lines.{Lines}
 use Rattle.float.proofs.Refusal.{answer-refused, answer-done}
+use Rattle.roots.specs.Root.{rootsOf}
 use Rattle.lsp.specs.Chebyshev.{seeded, plusNext, minusNext, factor, chebyshev}
 use Rattle.lsp.specs.Pairs.{paired, lpcToLsp}
 use borrow.Author.Needs.{needs}
@@ -15,8 +16,8 @@ use Rattle.lsp.proofs.lpc_to_lsp.Tie as tie
 
 -- the sides' sums f and g and their factors c and d, by what the calls ensure
 made : (a f g c d : List Float) (v : Lines) → f ≡ table 6 (seeded (plusNext a)) → g ≡ table 6 (seeded (minusNext a)) →
-    c ≡ table 6 (factor f) → d ≡ table 6 (factor g) → v ≡ paired c d →
-    v ≡ paired (chebyshev (plusNext a)) (chebyshev (minusNext a))
+    c ≡ table 6 (factor f) → d ≡ table 6 (factor g) → v ≡ paired (rootsOf c) (rootsOf d) →
+    v ≡ paired (rootsOf (chebyshev (plusNext a))) (rootsOf (chebyshev (minusNext a)))
 unfolding chebyshev
 made a f g c d v p q r s e = rw (e, r, s, p, q)
 

@@ -2,13 +2,12 @@
 use mathlib.Core.Path.{_≡_}
 use mathlib.Core.List.{List}
 use lib.Ieee.{Float}
-use Rattle.float.specs.Table.{table}
 use Rattle.lsp.specs.Pairs.{inTurn}
 use borrow.Author.Needs.{needs}
 use Rattle.lsp.proofs.ten_roots.Statement.{statement}
 use Rattle.lsp.proofs.ten_roots.Tie as tie
 
-in-turn : (x x' y y' z : List Float) → x ≡ x' → y ≡ y' → z ≡ table 10 (inTurn x y) → z ≡ table 10 (inTurn x' y')
+in-turn : (x x' y y' z : List Float) → x ≡ x' → y ≡ y' → z ≡ inTurn x y → z ≡ inTurn x' y'
 in-turn x x' y y' z e f g = rw (g, e, f)
 
 pub ten-roots-spec : {M : Type 1} → statement M

@@ -2,8 +2,7 @@
 use mathlib.Core.Path.{refl}
 use lib.Ieee.{ofBits, round}
 use Rattle.float.specs.Double.{double}
-use Rattle.roots.specs.Root.{met}
-use borrow.Author.Needs.{needs}
+use Rattle.roots.specs.inner.Scan.{met}
 use Rattle.roots.proofs.is_met.Statement.{statement}
 use Rattle.roots.proofs.is_met.Tie as tie
 

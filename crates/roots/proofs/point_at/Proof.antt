@@ -1,8 +1,8 @@
 -- `roots::point_at` meets its contract: the lent table is the quarter cosine, mirrored above the middle. Assumes nothing.
-use mathlib.Core.Path.{_≡_, refl, sym, ap, _∙_}
+use mathlib.Core.Path.{_≡_}
 use mathlib.Core.Bool.{false}
 use mathlib.Core.List.{List}
-use Prim.Native.Nat.{ℕ, zero, suc, _-_, _*_, _^_, _≤_, _<_}
+use Prim.Native.Nat.{ℕ, zero, suc, _-_, _*_, _≤_, _<_}
 use native.Mathlib.Nat.{not-suc-le-zero}
 use native.Mathlib.Omega.{arith}
 use lib.IntN.{pos, negℤ}
@@ -10,7 +10,7 @@ use lib.Ieee.{Float, binary64, neg, ofBits, ofInt, round}
 use lib.ListN.{getD}
 use Rattle.float.specs.Double.{_⧄_, double}
 use Rattle.float.proofs.Rounded.{round-neg}
-use Rattle.quarter.specs.Quarter.{quarter, quarterTable, entry}
+use Rattle.quarter.specs.Quarter.{quarter, quarterTable}
 use Rattle.quarter.proofs.Lookup.{looked}
 use Rattle.quarter.proofs.Entry.{entry-low, entry-high}
 use Rattle.quarter.proofs.Fall.{fall}
@@ -19,7 +19,11 @@ use borrow.Author.Needs.{needs}
 use Rattle.roots.proofs.point_at.Statement.{statement}
 use Rattle.roots.proofs.point_at.Tie as tie
 
-low : (t : List ℕ) (i : ℕ) → t ≡ quarterTable → i ≤ 512 → ofInt binary64 (pos (getD t (4 * i) 0)) ⧄ ofBits binary64 4742290407621132288 ≡ point i
+-- 2^30, as the code writes it
+abbrev unit : Float
+unit = ofBits binary64 4742290407621132288
+
+low : (t : List ℕ) (i : ℕ) → t ≡ quarterTable → i ≤ 512 → ofInt binary64 (pos (getD t (4 * i) 0)) ⧄ unit ≡ point i
 unfolding point double round ofBits
 low t i e h = rw (looked t (4 * i) e (omega arith), entry-low (4 * i) (omega arith))
 
@@ -35,10 +39,12 @@ above k h = larger (quarter (suc k)) (quarter k) (fall k h)
     larger : (a b : ℕ) → a < b → 0 < b
     larger a b l = omega arith
 
-high : (t : List ℕ) (i : ℕ) → t ≡ quarterTable → 512 < i → i ≤ 1024 → neg (ofInt binary64 (pos (getD t (4096 - 4 * i) 0))) ⧄ ofBits binary64 4742290407621132288 ≡ point i
+high : (t : List ℕ) (i : ℕ) → t ≡ quarterTable → 512 < i → i ≤ 1024 →
+    neg (ofInt binary64 (pos (getD t (4096 - 4 * i) 0))) ⧄ unit ≡ point i
 unfolding point double round ofBits
 high t i e h k =
-    rw (looked t (4096 - 4 * i) e (omega arith), entry-high (4 * i) (omega arith), negative (quarter (4096 - 4 * i)) (above (4096 - 4 * i) (omega arith)))
+    let m = 4096 - 4 * i in
+    rw (looked t m e (omega arith), entry-high (4 * i) (omega arith), negative (quarter m) (above m (omega arith)))
 
 pub point-at-spec : {M : Type 1} → statement M
 point-at-spec =
@@ -53,7 +59,7 @@ point-at-spec =
     -- int-to-float-result
     (λ c. search needs)
     -- returns
-    (λ c. low _ _ (c .before .before .before .pre .0) (c .before .before .if1 .taken))
+    (λ c. search low)
     -- mul-result-3
     (λ c. search needs)
     -- sub-result
@@ -65,4 +71,4 @@ point-at-spec =
     -- int-to-float-result-2
     (λ c. search needs)
     -- returns-2
-    (λ c. high _ _ (c .before .before .before .pre .0) (c .before .before .if1 .left) (c .before .before .before .pre .1)))
+    (λ c. search high))

@@ -1,18 +1,29 @@
 -- `roots::refine` meets its contract: after k turns each bracket has been halved k times. Assumes nothing.
-use mathlib.Core.Path.{refl}
-use Prim.Native.Nat.{_-_, zero-le}
+use mathlib.Core.List.{List}
+use Prim.Native.Nat.{ℕ, _-_, _<_, zero-le}
+use native.Mathlib.Omega.{arith}
+use lib.Ieee.{Float}
 use Rattle.float.proofs.Loop.{Went, went-none, went-more}
-use Rattle.roots.specs.Root.{halved, rootsIn}
+use Rattle.roots.specs.declared.Bracket.{Bracket}
+use Rattle.roots.specs.inner.Bracket.{bracketHalved}
 use Rattle.roots.proofs.Halvings.{refined, five}
 use borrow.Author.Needs.{needs}
 use Rattle.roots.proofs.refine.Statement.{statement}
 use Rattle.roots.proofs.refine.Tie as tie
 
+-- after k turns s is b halved k times
+abbrev Halving : List Float → Bracket → ℕ → Bracket → Type 0
+Halving c b k s = Went 0 50 (λ n. bracketHalved c) b k s
+
 abbrev Inv-loop : tie.InvT-loop
-Inv-loop c high s0₀ s1₀ s2₀ s3₀ s4₀ k₀ s0 s1 s2 s3 s4 k = Went 0 50 (λ n. halved c) s0₀ k s0 × Went 0 50 (λ n. halved c) s1₀ k s1 × Went 0 50 (λ n. halved c) s2₀ k s2 × Went 0 50 (λ n. halved c) s3₀ k s3 × Went 0 50 (λ n. halved c) s4₀ k s4
+Inv-loop c high b0 b1 b2 b3 b4 k₀ s0 s1 s2 s3 s4 k =
+    Halving c b0 k s0 × Halving c b1 k s1 × Halving c b2 k s2 × Halving c b3 k s3 × Halving c b4 k s4
 
 abbrev μ-loop : tie.MeasureT-loop
-μ-loop c high s0₀ s1₀ s2₀ s3₀ s4₀ k₀ s0 s1 s2 s3 s4 k = 50 - k
+μ-loop c high b0 b1 b2 b3 b4 k₀ s0 s1 s2 s3 s4 k = 50 - k
+
+begun : (c : List Float) (b : Bracket) → Halving c b 0 b
+begun c b = went-none 0 50 (λ n. bracketHalved c) b zero-le
 
 pub refine-spec : {M : Type 1} → statement M
 refine-spec =
@@ -51,7 +62,7 @@ refine-spec =
     -- bracket-of-requires-5
     (λ c κs. search needs)
     -- loop-holds
-    (λ c. (went-none 0 50 _ _ zero-le, went-none 0 50 _ _ zero-le, went-none 0 50 _ _ zero-le, went-none 0 50 _ _ zero-le, went-none 0 50 _ _ zero-le))
+    (λ c. (begun _ _, begun _ _, begun _ _, begun _ _, begun _ _))
     -- halve-requires
     (λ c κs. search needs)
     -- halve-requires-2
@@ -67,13 +78,10 @@ refine-spec =
     -- loop-less
     (λ c. search needs)
     -- loop-again
-    (λ c. (
-      went-more 0 50 _ _ _ _ _ (c .before .before .before .before .before .loop-test .taken) (c .before .before .before .before .halve .ensures) (c .before .before .before .before .before .before .loop .inv .0),
-      went-more 0 50 _ _ _ _ _ (c .before .before .before .before .before .loop-test .taken) (c .before .before .before .halve2 .ensures) (c .before .before .before .before .before .before .loop .inv .1),
-      went-more 0 50 _ _ _ _ _ (c .before .before .before .before .before .loop-test .taken) (c .before .before .halve3 .ensures) (c .before .before .before .before .before .before .loop .inv .2),
-      went-more 0 50 _ _ _ _ _ (c .before .before .before .before .before .loop-test .taken) (c .before .halve4 .ensures) (c .before .before .before .before .before .before .loop .inv .3),
-      went-more 0 50 _ _ _ _ _ (c .before .before .before .before .before .loop-test .taken) (c .halve5 .ensures) (c .before .before .before .before .before .before .loop .inv .4),
-    ))
+    (λ c.
+    let at-loop = c .before .before .before .before .before .before in
+    let within : at-loop .loop .k < 50 = omega arith in
+    (search went-more, search went-more, search went-more, search went-more, search went-more))
     -- array-read-root-of
     (λ c. search needs)
     -- root-of-requires
@@ -95,9 +103,4 @@ refine-spec =
     -- root-of-requires-5
     (λ c κs. search needs)
     -- returns
-    (λ c. five _ _ _ _ _ _
-    (refined _ _ 0 _ _ _ _ (c .before .before .before .before .before .loop-test .left) (c .before .before .before .before .before .before .before .before .before .before .before .bracket-of .ensures) (c .before .before .before .before .before .before .loop .inv .0) (c .before .before .before .before .root-of .ensures))
-    (refined _ _ 1 _ _ _ _ (c .before .before .before .before .before .loop-test .left) (c .before .before .before .before .before .before .before .before .before .before .bracket-of2 .ensures) (c .before .before .before .before .before .before .loop .inv .1) (c .before .before .before .root-of2 .ensures))
-    (refined _ _ 2 _ _ _ _ (c .before .before .before .before .before .loop-test .left) (c .before .before .before .before .before .before .before .before .before .bracket-of3 .ensures) (c .before .before .before .before .before .before .loop .inv .2) (c .before .before .root-of3 .ensures))
-    (refined _ _ 3 _ _ _ _ (c .before .before .before .before .before .loop-test .left) (c .before .before .before .before .before .before .before .before .bracket-of4 .ensures) (c .before .before .before .before .before .before .loop .inv .3) (c .before .root-of4 .ensures))
-    (refined _ _ 4 _ _ _ _ (c .before .before .before .before .before .loop-test .left) (c .before .before .before .before .before .before .before .bracket-of5 .ensures) (c .before .before .before .before .before .before .loop .inv .4) (c .root-of5 .ensures))))
+    (λ c. five _ _ _ _ _ _ (search refined) (search refined) (search refined) (search refined) (search refined)))

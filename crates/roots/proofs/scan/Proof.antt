@@ -3,7 +3,6 @@ use mathlib.Core.Path.{_≡_}
 use mathlib.Core.Logic.{⊎-elim}
 use mathlib.Core.List.{List}
 use Prim.Native.Nat.{ℕ, _-_}
-use native.Mathlib.Omega.{arith}
 use lib.Ieee.{Float}
 use Rattle.roots.specs.declared.Crossings.{Crossings}
 use Rattle.roots.proofs.Turns.{Scanning, scanning-none, scanning-past, scanning-met, scanning-five, scanning-all}
@@ -17,7 +16,9 @@ Inv-loop t c s₀ high₀ before₀ i₀ s high before i = Scanning c i s high b
 abbrev μ-loop : tie.MeasureT-loop
 μ-loop t c s₀ high₀ before₀ i₀ s high before i = 1025 - i
 
-joined : (c : List Float) (i : ℕ) (s t : Crossings) (high before : Float) → s ≡ t → Scanning c i t high before → Scanning c i s high before
+-- the state after an `if` is that of one of its ways
+joined : (c : List Float) (i : ℕ) (s t : Crossings) (high before : Float) → s ≡ t →
+    Scanning c i t high before → Scanning c i s high before
 joined c i s t high before e w = rw e w
 
 pub scan-spec : {M : Type 1} → statement M
@@ -31,27 +32,22 @@ scan-spec =
     -- value-at-requires
     (λ c κs. search needs)
     -- loop-holds
-    (λ c. scanning-none _ _ _ (c .before .point-at .ensures) (c .value-at .ensures))
+    (λ c. search scanning-none)
     -- point-at-requires-2
-    (λ c κs. (c .before .before .before .before .pre, omega arith))
+    (λ c κs. search needs)
     -- value-at-requires-2
     (λ c κs. search needs)
     -- is-met-requires
     (λ c κs. search needs)
     -- note-requires
-    (λ c κs. c .before .before .before .before .before .loop .inv .few)
+    (λ c κs. search needs)
     -- returns
-    (λ c. scanning-five _ _ _ _ _ _ _ _ _ (c .before .before .before .before .before .before .before .loop-test .taken) (c .before .before .before .before .before .before .point-at2 .ensures) (c .before .before .before .before .before .value-at2 .ensures) (c .before .before .before .before .is-met .ensures) (c .before .before .before .if1 .taken) (c .before .before .note .ensures) (c .before .before .before .before .before .before .before .before .loop .inv) (c .if2 .taken))
+    (λ c. search scanning-five)
     -- add-i
     (λ c. search needs)
     -- loop-less
     (λ c. search needs)
     -- loop-again
-    (λ c. ⊎-elim
-    (λ w. joined _ _ _ _ _ _ (w .4)
-    (scanning-met _ _ _ _ _ _ _ _ _ (c .before .before .before .before .loop-test .taken) (c .before .before .before .point-at2 .ensures) (c .before .before .value-at2 .ensures) (c .before .is-met .ensures) (w .0 .taken) (w .1 .ensures) (c .before .before .before .before .before .loop .inv) (w .3 .left)))
-    (λ w. joined _ _ _ _ _ _ (w .1)
-    (scanning-past _ _ _ _ _ _ _ _ (c .before .before .before .before .loop-test .taken) (c .before .before .before .point-at2 .ensures) (c .before .before .value-at2 .ensures) (c .before .is-met .ensures) (w .0 .left) (c .before .before .before .before .before .loop .inv)))
-    (c .if1 .came))
+    (λ c. ⊎-elim (λ w. search (joined, scanning-met)) (λ w. search (joined, scanning-past)) (c .if1 .came))
     -- returns-2
-    (λ c. scanning-all _ _ _ _ _ (c .loop-test .left) (c .before .loop .inv)))
+    (λ c. search scanning-all))

@@ -3,7 +3,6 @@ use mathlib.Core.Path.{refl}
 use lib.Ieee.{ofBits, round}
 use Rattle.float.specs.Double.{double}
 use Rattle.roots.specs.Clenshaw.{clenshawStep}
-use borrow.Author.Needs.{needs}
 use Rattle.roots.proofs.step.Statement.{statement}
 use Rattle.roots.proofs.step.Tie as tie
 
