@@ -1,6 +1,6 @@
--- `step c` is the least k in 0..2^24 whose unnarrowed cosine is ≤ c, wherever there is one, and nothing else is (document 01, C6). There is one exactly from −1
--- up: step 2^24 has the cosine −1, and no step has a smaller one. Halving finds it because the cosine falls: what follows a step that reaches c reaches it too.
--- Assumes nothing.
+-- `step c` is the least k in 0..2^24 whose unnarrowed cosine is ≤ c, wherever there is one, and nothing else is (document 01, C6). There
+-- is one exactly from −1 up: step 2^24 has the cosine −1, and no step has a smaller one. Halving finds it because the cosine falls: what
+-- follows a step that reaches c reaches it too. Assumes nothing.
 use mathlib.Core.Path.{_≡_, refl, sym, subst}
 use mathlib.Core.Bool.{Bool, true, false, cond}
 use Prim.Native.Nat.{ℕ, zero, suc, _+_, _^_, _≤_, _<_}
@@ -89,14 +89,17 @@ step-least c h = go (le (cosine 0) c) refl
 
 -- a c that has one is no less than −1, since no cosine of a step is
 pub step-from : (c : Float) (k : ℕ) → StepOf c k → T (le (neg (single 1 1)) c)
-step-from c k s =
-    le-trans-any (neg (single 1 1)) (cosine k) c
-    (le-trans-any (neg (single 1 1)) (cosine (2 ^ 24)) (cosine k) first (cosine-falls k (2 ^ 24) (s .inside) (le-refl (2 ^ 24)))) (s .reaches)
+step-from c k s = le-trans-any (neg (single 1 1)) (cosine k) c none-less (s .reaches)
   where
     first : T (le (neg (single 1 1)) (cosine (2 ^ 24)))
     first =
         le-values (neg (single 1 1)) (cosine (2 ^ 24)) true 1 1 true (2 ^ 42) (2 ^ 42) (lit< tt) (pow-pos 42) minus-one value-last
         (le-refl (2 ^ 42))
+
+    none-less : T (le (neg (single 1 1)) (cosine k))
+    none-less =
+        le-trans-any (neg (single 1 1)) (cosine (2 ^ 24)) (cosine k) first
+        (cosine-falls k (2 ^ 24) (s .inside) (le-refl (2 ^ 24)))
 
 -- and nothing else is it: of two, neither is before the other
 pub step-is : (c : Float) (k : ℕ) → StepOf c k → k ≡ step c

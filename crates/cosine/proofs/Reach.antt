@@ -1,4 +1,5 @@
--- Which steps reach a value x in −1..1, in whole numbers: up to the quarter circle those whose blend is at most |x| × 2^42, above it those whose mirrored one is at least that. And so the step found among the blends is the step of x. Assumes nothing.
+-- Which steps reach a value x in −1..1, in whole numbers: up to the quarter circle those whose blend is at most |x| × 2^42, above it
+-- those whose mirrored one is at least that. And so the step found among the blends is the step of x. Assumes nothing.
 use mathlib.Core.Path.{_≡_, refl, sym, ap, _∙_, subst}
 use mathlib.Core.Bool.{Bool, true, false, not, cond, _||_, true≢false, false≢true}
 use Prim.Native.Nat.{ℕ, zero, suc, _+_, _-_, _*_, _/_, _^_, _≤_, _<_}

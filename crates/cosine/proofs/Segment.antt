@@ -1,4 +1,5 @@
--- The search for the least step up to the quarter circle whose blend is no greater than n: first between which two entries n lies, then how many steps after the first of them. Assumes nothing.
+-- The search for the least step up to the quarter circle whose blend is no greater than n: first between which two entries n lies, then
+-- how many steps after the first of them. Assumes nothing.
 use mathlib.Core.Path.{_≡_, sym, ap, _∙_, subst}
 use Prim.Native.Nat.{ℕ, suc, _+_, _-_, _*_, _/_, _^_, _≤_, _<_}
 use native.Mathlib.Nat.{mul-add, add-mul, le-trans, lt-of-lt-of-le, lt-of-not-le, not-suc-le-zero, lt-mul-div-succ, mul-div-le, div-lt-iff-lt-mul}

@@ -1,5 +1,5 @@
--- Laws of `floor`: without a divisor; of the value alone; a quotient of it is the floor with a greater divisor, and only the fraction p / q counts;
--- and no more than p times a bound that x does not exceed. Each is a law of quotients of whole numbers. Assumes nothing.
+-- Laws of `floor`: without a divisor; of the value alone; a quotient of it is the floor with a greater divisor, and only the fraction p
+-- / q counts; and no more than p times a bound that x does not exceed. Each is a law of quotients of whole numbers. Assumes nothing.
 use mathlib.Core.Path.{_≡_, refl, sym, ap, _∙_}
 use mathlib.Core.Bool.{Bool, false}
 use Prim.Native.Nat.{ℕ, _*_, _/_, _^_, _≤_, _<_, zero-le}
@@ -22,7 +22,8 @@ floor-value p nan s a c C v = absurd v
 floor-value p (inf t) s a c C v = absurd v
 floor-value p (fin t m e) s a c C v =
     floor-whole p t m e
-    ∙ div-same (m * up e * p) (down e) (a * p) c (down-pos e) C (mul-right-comm (m * up e) p c ∙ ap (λ (n : ℕ). n * p) (v .1) ∙ mul-right-comm a (down e) p)
+    ∙ div-same (m * up e * p) (down e) (a * p) c (down-pos e) C
+    (mul-right-comm (m * up e) p c ∙ ap (λ (n : ℕ). n * p) (v .1) ∙ mul-right-comm a (down e) p)
 
 pub floor-div : (p q k : ℕ) (x : Float) → floor p q x / k ≡ floor p (q * k) x
 unfolding floor
@@ -36,7 +37,8 @@ unfolding floor
 floor-same p q r t nan Q T h = refl
 floor-same p q r t (inf s) Q T h = refl
 floor-same p q r t (fin s m e) Q T h =
-    div-same (m * up e * p) (down e * q) (m * up e * r) (down e * t) (mul-pos (down-pos e) Q) (mul-pos (down-pos e) T) (cross (m * up e) (down e))
+    div-same (m * up e * p) (down e * q) (m * up e * r) (down e * t) (mul-pos (down-pos e) Q) (mul-pos (down-pos e) T)
+    (cross (m * up e) (down e))
   where
     cross : (n d : ℕ) → n * p * (d * t) ≡ n * r * (d * q)
     cross n d =

@@ -1,6 +1,6 @@
--- Results that bear no minus sign, and what a factor of 1 or more does to one: it does not fall, so what exceeds the product exceeds the value itself.
--- The sign of a rounded fraction is the one it was given; and a value that the format holds is its own rounding, which keeps the order. NaN and infinities
--- are among the values: a product with a NaN is a NaN, and nothing exceeds that. Assumes nothing.
+-- Results that bear no minus sign, and what a factor of 1 or more does to one: it does not fall, so what exceeds the product exceeds the
+-- value itself. The sign of a rounded fraction is the one it was given; and a value that the format holds is its own rounding, which
+-- keeps the order. NaN and infinities are among the values: a product with a NaN is a NaN, and nothing exceeds that. Assumes nothing.
 use mathlib.Core.Path.{_≡_, refl, sym, ap, _∙_, subst}
 use mathlib.Core.Bool.{Bool, true, false, cond, true≢false}
 use Prim.Native.Nat.{ℕ, zero, suc, _*_, _^_, _-_, _/_, _≤_, _<_}

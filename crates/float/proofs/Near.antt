@@ -1,5 +1,6 @@
--- Sums, differences and products of singles in whole units of 2^-149, and how far rounding moves them: where the exact result is below 2 ^ (24 + k) units, what is
--- computed is a finite single within half of 2 ^ k units of it. A value x is plus x - less x units; one lemma, `near-of`, serves all three. Assumes nothing.
+-- Sums, differences and products of singles in whole units of 2^-149, and how far rounding moves them: where the exact result is below 2
+-- ^ (24 + k) units, what is computed is a finite single within half of 2 ^ k units of it. A value x is plus x - less x units; one lemma,
+-- `near-of`, serves all three. Assumes nothing.
 use mathlib.Core.Path.{_≡_, refl, sym, ap, _∙_, subst}
 use mathlib.Core.Bool.{Bool, true, false, not, _&&_, cond}
 use mathlib.Core.Logic.{_⊎_, inl, inr}
@@ -58,7 +59,8 @@ pub units-of : (x : Float) (s : Bool) (a : ℕ) → HasValue x s a unit → (plu
 unfolding negative plus less
 units-of nan s a v = absurd v
 units-of (inf t) s a v = absurd v
-units-of (fin t m e) s a v = (ap (λ (b : Bool). cond b 0 n) (v .0) ∙ ap (cond s 0) is, ap (λ (b : Bool). cond b n 0) (v .0) ∙ ap (λ (x : ℕ). cond s x 0) is)
+units-of (fin t m e) s a v =
+    (ap (λ (b : Bool). cond b 0 n) (v .0) ∙ ap (cond s 0) is, ap (λ (b : Bool). cond b n 0) (v .0) ∙ ap (λ (x : ℕ). cond s x 0) is)
   where
     n : ℕ
     n = unitsOf (fin t m e)

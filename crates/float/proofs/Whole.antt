@@ -1,5 +1,5 @@
--- Whole numbers as singles, in units of 2^-149: a number below 2^24 in size is exact. And what is known of a finite single by its units: it does not exceed 2^k
--- where it has no more than 2^k × 2^149 of them. Assumes nothing.
+-- Whole numbers as singles, in units of 2^-149: a number below 2^24 in size is exact. And what is known of a finite single by its units:
+-- it does not exceed 2^k where it has no more than 2^k × 2^149 of them. Assumes nothing.
 use mathlib.Core.Path.{_≡_, sym, ap, _∙_}
 use mathlib.Core.Bool.{Bool, true, false, not, _||_}
 use Prim.Native.Nat.{ℕ, suc, _*_, _^_, _≤_, _<_, zero-le}

@@ -1,6 +1,5 @@
--- The three rules of the quarter cosine, as document 01 states them ("Proved over the whole table: .."), at every entry from 0 to 4,096.
--- proofs/Fall, proofs/Doubling and proofs/Neighbour prove them.
--- Assumes nothing.
+-- The three rules of the quarter cosine, at every entry from 0 to 4,096; proofs/Fall, proofs/Doubling and proofs/Neighbour prove them.
+-- Added by design. Document 01, C3. Assumes nothing.
 use mathlib.Core.Path.{_≡_}
 use Prim.Native.Nat.{ℕ, suc, _+_, _-_, _*_, _^_, _≤_, _<_}
 use lib.IntN.{ℤ, pos, natAbs, _+ℤ_, _-ℤ_, _*ℤ_}
