@@ -2,7 +2,7 @@
 use mathlib.Core.Path.{_≡_, refl, sym, ap, _∙_, subst}
 use mathlib.Core.Bool.{Bool, true, false, not, false≢true}
 use Prim.Native.Nat.{ℕ, zero, suc, _+_, _-_, _*_, _/_, _^_, _≤_, _<_}
-use native.Mathlib.Nat.{add-mul, mul-one, one-mul, mul-pos, zero-mul, le-trans, mul-le-mul-right, div-mul-le-self, lt-div-mul-add, div-eq-of-lt-le}
+use native.Mathlib.Nat.{add-mul, mul-one, one-mul, mul-pos, zero-mul, le-trans, le-of-eq, mul-le-mul-right, div-mul-le-self, lt-div-mul-add, div-eq-of-lt-le}
 use native.Mathlib.Numerals.{add-one}
 use native.Mathlib.Omega.{arith}
 use lib.Dec.{T, leb, leb→le, nleb→lt, lit<, lit≤}
@@ -14,11 +14,12 @@ use lib.Ieee.Exact.{HasValue}
 use lib.Ieee.Fits.{down-pos, fits-widens}
 use borrow.Author.Tests.{ltb-true}
 use Rattle.float.specs.Finite.{power, exceeds}
+use Rattle.float.specs.Floor.{floor}
 use Rattle.float.proofs.Bound.{magnitude, no-infinity}
+use Rattle.float.proofs.Floor.{floor-whole, floor-le}
 use Rattle.float.proofs.Order.{le-values, values-le}
-use Rattle.cosine.specs.Step.{wholePart}
 use Rattle.cosine.specs.inner.Search.{wholeBelow}
-use Rattle.cosine.proofs.Whole.{scale, below-zero, neg-value, up46, zero-double, whole-le}
+use Rattle.cosine.proofs.Whole.{scale, below-zero, neg-value, up46, zero-double}
 
 -- ---- in whole numbers
 one-more : (q c : ℕ) → (q + 1) * c ≡ q * c + c
@@ -95,25 +96,27 @@ module _ (s : Bool) (m : ℕ) (e : ℤ) (f : T (fits binary32 (fin s m e))) (h :
   some = mul-pos (digits s m e k .1) (pow-pos 46)
 
   few : m * up e * 2 ^ 46 / down e ≤ 2 ^ 53
-  unfolding wholePart
-  few = le-trans (whole-le 0 (fin s m e) h) (lit≤ tt)
+  few = le-trans (le-of-eq (sym (floor-whole (2 ^ 46) s m e))) (le-trans (floor-le (2 ^ 46) 0 (fin s m e) h) (lit≤ tt))
 
-pub exactly : (x : Float) (n : ℕ) → T (fits binary32 x) → exceeds (power 0) x ≡ false → lt x zero-double ≡ true → n ≡ wholePart 46 x → le (neg (ofInt binary64 (pos n))) (up46 x) ≡ true → (1 ≤ n) × (n - 1 ≡ wholeBelow 46 x)
-unfolding wholePart wholeBelow
+pub exactly : (x : Float) (n : ℕ) → T (fits binary32 x) → exceeds (power 0) x ≡ false → lt x zero-double ≡ true → n ≡ floor (2 ^ 46) 1 x → le (neg (ofInt binary64 (pos n))) (up46 x) ≡ true → (1 ≤ n) × (n - 1 ≡ wholeBelow 46 x)
+unfolding wholeBelow
 exactly nan n f h k e t = absurd (no-nan k)
 exactly (inf s) n f h k e t = absurd (no-infinity 0 s h)
 exactly (fin s m g) n f h k e t =
     let a = m * up g * 2 ^ 46 in
     let q = a / down g in
-    let l = test-exact q a (down g) (up46 (fin s m g)) (down-pos g) (few s m g f h k) (product s m g f h k) (ap (λ (z : ℕ). le (neg (ofInt binary64 (pos z))) (up46 (fin s m g))) (sym e) ∙ t) in
-    subst (λ (z : ℕ). (1 ≤ z) × (z - 1 ≡ (a - 1) / down g)) (sym e) (exact a (down g) (down-pos g) (some s m g f h k) l)
+    let w : n ≡ q = e ∙ floor-whole (2 ^ 46) s m g in
+    let tested = ap (λ (z : ℕ). le (neg (ofInt binary64 (pos z))) (up46 (fin s m g))) (sym w) ∙ t in
+    let l = test-exact q a (down g) (up46 (fin s m g)) (down-pos g) (few s m g f h k) (product s m g f h k) tested in
+    subst (λ (z : ℕ). (1 ≤ z) × (z - 1 ≡ (a - 1) / down g)) (sym w) (exact a (down g) (down-pos g) (some s m g f h k) l)
 
-pub shortly : (x : Float) (n : ℕ) → T (fits binary32 x) → exceeds (power 0) x ≡ false → lt x zero-double ≡ true → n ≡ wholePart 46 x → le (neg (ofInt binary64 (pos n))) (up46 x) ≡ false → n ≡ wholeBelow 46 x
-unfolding wholePart wholeBelow
+pub shortly : (x : Float) (n : ℕ) → T (fits binary32 x) → exceeds (power 0) x ≡ false → lt x zero-double ≡ true → n ≡ floor (2 ^ 46) 1 x → le (neg (ofInt binary64 (pos n))) (up46 x) ≡ false → n ≡ wholeBelow 46 x
+unfolding wholeBelow
 shortly nan n f h k e t = absurd (no-nan k)
 shortly (inf s) n f h k e t = absurd (no-infinity 0 s h)
 shortly (fin s m g) n f h k e t =
     let a = m * up g * 2 ^ 46 in
     let q = a / down g in
-    let l = test-short q a (down g) (up46 (fin s m g)) (down-pos g) (few s m g f h k) (product s m g f h k) (ap (λ (z : ℕ). le (neg (ofInt binary64 (pos z))) (up46 (fin s m g))) (sym e) ∙ t) in
-    e ∙ short a (down g) (down-pos g) l
+    let w : n ≡ q = e ∙ floor-whole (2 ^ 46) s m g in
+    let tested = ap (λ (z : ℕ). le (neg (ofInt binary64 (pos z))) (up46 (fin s m g))) (sym w) ∙ t in
+    w ∙ short a (down g) (down-pos g) (test-short q a (down g) (up46 (fin s m g)) (down-pos g) (few s m g f h k) (product s m g f h k) tested)

@@ -1,11 +1,12 @@
--- Which steps reach a value x in −1..1, in whole numbers: up to the quarter circle those whose blend is at most |x| × 2^42, above it those whose mirrored one is at least that. And so the step found among the blends is the step of x. Assumes nothing.
+-- Which steps reach a value x in −1..1, in whole numbers: up to the quarter circle those whose blend is at most |x| × 2^42, above it
+-- those whose mirrored one is at least that. And so the step found among the blends is the step of x. Assumes nothing.
 use mathlib.Core.Path.{_≡_, refl, sym, ap, _∙_, subst}
 use mathlib.Core.Bool.{Bool, true, false, not, cond, _||_, true≢false, false≢true}
 use Prim.Native.Nat.{ℕ, zero, suc, _+_, _-_, _*_, _/_, _^_, _≤_, _<_}
 use native.Mathlib.Numerals.{add-one}
-use native.Mathlib.Nat.{two-pow-succ, lt-irrefl, lt-of-le-of-lt, le-of-lt, lt-suc-self, div-lt-iff-lt-mul, mul-one, mul-comm, mul-assoc, mul-pos, le-trans, mul-div-mul-right, div-div-eq-div-mul, le-div-iff-mul-le}
+use native.Mathlib.Nat.{two-pow-succ, lt-irrefl, lt-of-le-of-lt, le-of-lt, lt-suc-self, div-lt-iff-lt-mul, mul-comm, mul-pos, le-trans, div-div-eq-div-mul, le-div-iff-mul-le}
 use native.Mathlib.Omega.{arith}
-use lib.Dec.{T, leb, leb→le, nleb→lt, lit<}
+use lib.Dec.{T, leb, leb→le, nleb→lt}
 use lib.Pow.{pow-pos}
 use lib.IntN.{ℤ}
 use lib.Ieee.{Float, nan, inf, fin, up, down, lt, eq, le, ne, neg}
@@ -14,25 +15,21 @@ use lib.Ieee.Fits.{down-pos}
 use borrow.Author.Tests.{ltb-false}
 use Rattle.float.specs.Single.{single}
 use Rattle.float.specs.Finite.{power, exceeds}
+use Rattle.float.specs.Floor.{floor}
 use Rattle.float.proofs.Bound.{magnitude, no-infinity}
+use Rattle.float.proofs.Floor.{floor-whole}
 use Rattle.float.proofs.Order.{Under, le-values, values-le}
 use Rattle.cosine.specs.Cosine.{cosine}
 use Rattle.cosine.specs.inner.Low.{low}
-use Rattle.cosine.specs.Step.{held, above, reached, step, wholePart}
+use Rattle.cosine.specs.Step.{held, above, reached, StepOf, step}
 use Rattle.cosine.specs.inner.Search.{LowStep, wholeBelow}
 use Rattle.cosine.proofs.Blend.{low-monotone, low-first}
 use Rattle.cosine.proofs.Monotone.{near, far}
-use Rattle.cosine.proofs.Least.{Least, minus-one, step-is}
-use Rattle.cosine.proofs.Whole.{zero-double}
+use Rattle.cosine.proofs.Least.{step-is}
+use Rattle.cosine.proofs.Whole.{zero-double, sixteenth}
 use Rattle.cosine.proofs.Below.{digits, no-nan}
 
 -- ---- from 2^46 to 2^42
-sixteenth : (n d : ℕ) → n * 2 ^ 46 / d / 16 ≡ n * 2 ^ 42 / d
-sixteenth n d =
-    div-div-eq-div-mul (n * 2 ^ 46) d 16
-    ∙ ap (λ (z : ℕ). z / (d * 16)) (sym (mul-assoc n (2 ^ 42) 16))
-    ∙ mul-div-mul-right (n * 2 ^ 42) d (lit< tt)
-
 sixteenth-below : (n d : ℕ) → 0 < n → (n * 2 ^ 46 - 1) / d / 16 ≡ (n * 2 ^ 42 - 1) / d
 sixteenth-below n d h =
     div-div-eq-div-mul (n * 2 ^ 46 - 1) d 16
@@ -42,11 +39,6 @@ sixteenth-below n d h =
   where
     less : (n * 2 ^ 46 - 1) / 16 ≡ n * 2 ^ 42 - 1
     less = omega arith
-
--- ---- a test that cannot hold does not
-refute : (b : Bool) → (T b → ⊥) → T (not b)
-refute true f = absurd (f tt)
-refute false f = tt
 
 -- ---- x from 0 up, of either sign where it is 0
 zeroed : (s : Bool) (v x : ℕ) → (s ≡ true → x ≡ 0) → v ≤ x → Under false v s x
@@ -69,10 +61,11 @@ module _ (s : Bool) (m : ℕ) (e : ℤ) (z : s ≡ true → m * up e * 2 ^ 42 �
       (unzeroed s (low k * down e) (m * up e * 2 ^ 42)
       (values-le (cosine k) (fin s m e) false (low k) (2 ^ 42) s (m * up e) (down e) (pow-pos 42) (down-pos e) (near k h) (refl, refl) t))
 
-  low-least : (r : ℕ) → LowStep (m * up e * 2 ^ 42 / down e) r → Least (reached (fin s m e)) r
+  low-least : (r : ℕ) → LowStep (m * up e * 2 ^ 42 / down e) r → StepOf (fin s m e) r
   low-least r l = record {
-    passes = low-reached r (l .inside) (l .passes);
-    before = λ k h. refute (reached (fin s m e) k) (λ t. lt-irrefl (low k) (lt-of-le-of-lt (low-back k (le-trans (le-of-lt h) (l .inside)) t) (l .before k h)));
+    inside = omega (arith, l .inside);
+    reaches = low-reached r (l .inside) (l .passes);
+    least = λ k h t. lt-irrefl (low k) (lt-of-le-of-lt (low-back k (le-trans (le-of-lt h) (l .inside)) t) (l .before k h));
   }
 
 -- ---- x below 0
@@ -113,11 +106,12 @@ module _ (m : ℕ) (e : ℤ) (h : 0 < m * up e) where
       less : (x d : ℕ) → 0 < x → x ≤ 2 ^ 0 * d → x * 2 ^ 42 - 1 < 2 ^ 42 * d
       less x d p q = omega arith
 
-  high-least : m * up e ≤ 2 ^ 0 * down e → (r : ℕ) → LowStep ((m * up e * 2 ^ 42 - 1) / down e) r → Least (reached (fin true m e)) (2 ^ 24 + 1 - r)
+  high-least : m * up e ≤ 2 ^ 0 * down e → (r : ℕ) → LowStep ((m * up e * 2 ^ 42 - 1) / down e) r → StepOf (fin true m e) (2 ^ 24 + 1 - r)
   high-least b zero l = absurd (lt-irrefl (2 ^ 42) (lt-of-le-of-lt (subst (λ (v : ℕ). v ≤ (m * up e * 2 ^ 42 - 1) / down e) low-first (l .passes)) (small b)))
   high-least b (suc r) l = record {
-    passes = high-reached (2 ^ 24 + 1 - suc r) (omega (arith, l .inside)) (omega arith) (subst (λ (j : ℕ). (m * up e * 2 ^ 42 - 1) / down e < low j) mirrored (l .before r (lt-suc-self r)));
-    before = λ k g. refute (reached (fin true m e) k) (λ t. either k g t (leb k (2 ^ 23)) (leb→le k (2 ^ 23)) (nleb→lt k (2 ^ 23)));
+    inside = omega arith;
+    reaches = high-reached (2 ^ 24 + 1 - suc r) (omega (arith, l .inside)) (omega arith) (subst (λ (j : ℕ). (m * up e * 2 ^ 42 - 1) / down e < low j) mirrored (l .before r (lt-suc-self r)));
+    least = λ k g t. either k g t (leb k (2 ^ 23)) (leb→le k (2 ^ 23)) (nleb→lt k (2 ^ 23));
   }
     where
       mirrored : r ≡ 2 ^ 24 - (2 ^ 24 + 1 - suc r)
@@ -131,13 +125,6 @@ module _ (m : ℕ) (e : ℤ) (h : 0 < m * up e) where
           (high-back k (q tt) (omega arith) t))
 
 -- ---- the step of x
-minus-one-le : (s : Bool) (m : ℕ) (e : ℤ) → m * up e ≤ 2 ^ 0 * down e → T (le (neg (single 1 1)) (fin s m e))
-minus-one-le s m e l = le-values (neg (single 1 1)) (fin s m e) true 1 1 s (m * up e) (down e) (lit< tt) (down-pos e) minus-one (refl, refl) (go s)
-  where
-    go : (s : Bool) → Under true (1 * down e) s (m * up e * 1)
-    go false = tt
-    go true = subst (λ (v : ℕ). v ≤ 1 * down e) (sym (mul-one (m * up e))) l
-
 -- what is not below 0 has no digits where its sign is the negative one
 negative-zero : (s : Bool) (m : ℕ) (e : ℤ) → lt (fin s m e) zero-double ≡ false → s ≡ true → m * up e * 2 ^ 42 ≡ 0
 unfolding lt
@@ -147,23 +134,26 @@ negative-zero true m e h k = none (m * up e) (0 * 1 * down e) (ltb-false 0 (m * 
     none x y l = omega arith
 negative-zero false m e h k = absurd (false≢true k)
 
-pub step-low : (x : Float) (n r : ℕ) → exceeds (power 0) x ≡ false → ne x x ≡ false → lt x zero-double ≡ false → n ≡ wholePart 46 x → LowStep (n / 16) r → r ≡ step x
-unfolding wholePart
+pub step-low : (x : Float) (n r : ℕ) → exceeds (power 0) x ≡ false → ne x x ≡ false → lt x zero-double ≡ false → n ≡ floor (2 ^ 46) 1 x →
+    LowStep (n / 16) r → r ≡ step x
 step-low nan n r h d k e l = absurd (true≢false (sym nan-differs ∙ d))
 step-low (inf s) n r h d k e l = absurd (no-infinity 0 s h)
 step-low (fin s m g) n r h d k e l =
-    step-is (fin s m g) r (minus-one-le s m g (magnitude 0 s m g h))
-    (low-least s m g (negative-zero s m g k) r (subst (λ (v : ℕ). LowStep v r) (ap (λ (v : ℕ). v / 16) e ∙ sixteenth (m * up g) (down g)) l))
+    let w : n / 16 ≡ m * up g * 2 ^ 42 / down g =
+    ap (λ (v : ℕ). v / 16) e ∙ sixteenth (fin s m g) ∙ floor-whole (2 ^ 42) s m g in
+    step-is (fin s m g) r (low-least s m g (negative-zero s m g k) r (subst (λ (v : ℕ). LowStep v r) w l))
 
-pub step-high : (x : Float) (n r : ℕ) → exceeds (power 0) x ≡ false → lt x zero-double ≡ true → n ≡ wholeBelow 46 x → LowStep (n / 16) r → 2 ^ 24 + 1 - r ≡ step x
+pub step-high : (x : Float) (n r : ℕ) → exceeds (power 0) x ≡ false → lt x zero-double ≡ true → n ≡ wholeBelow 46 x → LowStep (n / 16) r →
+    2 ^ 24 + 1 - r ≡ step x
 unfolding wholeBelow
 step-high nan n r h k e l = absurd (no-nan k)
 step-high (inf s) n r h k e l = absurd (no-infinity 0 s h)
 step-high (fin false m g) n r h k e l = absurd (false≢true (digits false m g k .0))
 step-high (fin true m g) n r h k e l =
     let some = digits true m g k .1 in
-    step-is (fin true m g) (2 ^ 24 + 1 - r) (minus-one-le true m g (magnitude 0 true m g h))
-    (high-least m g some (magnitude 0 true m g h) r (subst (λ (v : ℕ). LowStep v r) (ap (λ (v : ℕ). v / 16) e ∙ sixteenth-below (m * up g) (down g) some) l))
+    let w : n / 16 ≡ (m * up g * 2 ^ 42 - 1) / down g = ap (λ (v : ℕ). v / 16) e ∙ sixteenth-below (m * up g) (down g) some in
+    step-is (fin true m g) (2 ^ 24 + 1 - r)
+    (high-least m g some (magnitude 0 true m g h) r (subst (λ (v : ℕ). LowStep v r) w l))
 
 -- ---- a NaN
 nothing-le : (y : Float) → le y nan ≡ false

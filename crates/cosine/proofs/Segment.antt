@@ -1,10 +1,10 @@
--- The search for the least step up to the quarter circle whose blend is no greater than n: first between which two entries n lies, then how many steps after the first of them. Assumes nothing.
+-- The search for the least step up to the quarter circle whose blend is no greater than n: first between which two entries n lies, then
+-- how many steps after the first of them. Assumes nothing.
 use mathlib.Core.Path.{_≡_, sym, ap, _∙_, subst}
-use mathlib.Core.Bool.{Bool, false, not}
 use Prim.Native.Nat.{ℕ, suc, _+_, _-_, _*_, _/_, _^_, _≤_, _<_}
-use native.Mathlib.Nat.{mul-add, add-mul, le-trans, lt-of-lt-of-le, not-suc-le-zero, lt-mul-div-succ, mul-div-le, div-lt-iff-lt-mul}
+use native.Mathlib.Nat.{mul-add, add-mul, le-trans, lt-of-lt-of-le, lt-of-not-le, not-suc-le-zero, lt-mul-div-succ, mul-div-le, div-lt-iff-lt-mul}
 use native.Mathlib.Omega.{arith}
-use lib.Dec.{T, leb→le, le→leb, nleb→lt, lit≤}
+use lib.Dec.{T, leb→le, le→leb, lit≤}
 use borrow.Author.Tests.{lt-leb}
 use native.Mathlib.Numerals.{add-one}
 use Rattle.quarter.specs.Quarter.{quarter}
@@ -26,16 +26,13 @@ upward q i j h l t = le→leb (quarter j) q (le-trans (monotone i j h l) (leb→
 
 pub segment : (n i : ℕ) → n < 2 ^ 42 → i + 1 ≡ above 11 (entryWithin (n / 4096)) 0 → Segment n i
 segment n i h e = record {
-  room = omega (arith, subst (λ (r : ℕ). r ≤ 2048) (sym f) (found .1));
-  over = high (quarter i) (nleb→lt (quarter i) (n / 4096) (least .before i (omega arith)));
+  room = omega (arith, least .inside);
+  over = high (quarter i) (lt-of-not-le (λ (h : quarter i ≤ n / 4096). least .before i (omega arith) (le→leb (quarter i) (n / 4096) h)));
   under = within (quarter (suc i)) (leb→le (quarter (suc i)) (n / 4096) (least .passes));
 }
   where
     f : suc i ≡ above 11 (entryWithin (n / 4096)) 0
     f = sym (add-one i) ∙ e
-
-    fails : (b : Bool) → b ≡ false → T (not b)
-    fails b z = subst (λ (x : Bool). T (not x)) (sym z) tt
 
     high-first : n / 4096 < quarter 0
     high-first = omega (arith, first)
@@ -43,13 +40,11 @@ segment n i h e = record {
     low-last : quarter 2048 ≤ n / 4096
     low-last = omega (arith, last)
 
-    found : Least (entryWithin (n / 4096)) (above 11 (entryWithin (n / 4096)) 0) × (above 11 (entryWithin (n / 4096)) 0 ≤ 2048)
-    found =
-        above-least (entryWithin (n / 4096)) 2048 (upward (n / 4096)) 11 0 (lit≤ tt)
-        (fails (entryWithin (n / 4096) 0) (lt-leb (quarter 0) (n / 4096) high-first)) (le→leb (quarter 2048) (n / 4096) low-last)
-
-    least : Least (entryWithin (n / 4096)) (suc i)
-    least = subst (Least (entryWithin (n / 4096))) (sym f) (found .0)
+    least : Least (entryWithin (n / 4096)) 2048 (suc i)
+    least =
+        subst (Least (entryWithin (n / 4096)) 2048) (sym f)
+        (above-least (entryWithin (n / 4096)) 2048 (upward (n / 4096)) 11 0 (lit≤ tt)
+        (subst T (lt-leb (quarter 0) (n / 4096) high-first)) (le→leb (quarter 2048) (n / 4096) low-last))
 
     high : (x : ℕ) → n / 4096 < x → n < x * 4096
     high x l = omega arith

@@ -1,23 +1,24 @@
--- The whole part of a magnitude times a power of two, and the two steps read off it. Assumes nothing.
+-- |x| × 2^46 rounded down, as the code cuts it, and the two steps read off it. Assumes nothing.
 use mathlib.Core.Path.{_≡_, refl, sym, ap, _∙_, subst}
-use mathlib.Core.Bool.{Bool, true, false, not, _||_, _&&_}
-use Prim.Native.Nat.{ℕ, zero, suc, _+_, _-_, _*_, _/_, _%_, _^_, _≤_, _<_}
-use native.Mathlib.Nat.{mul-assoc, mul-comm, mul-left-comm, mul-right-comm, mul-one, one-mul, mul-pos, zero-mul, div-div-eq-div-mul, le-trans, lt-of-le-of-lt, lt-of-lt-of-le, mul-le-mul-right, mul-le-mul-left, div-lt-iff-lt-mul, mul-lt-mul-of-pos-right, le-of-eq, div-mul-le-self, le-div-iff-mul-le, zero-lt-suc}
+use mathlib.Core.Bool.{Bool, true, false, not, _&&_}
+use Prim.Native.Nat.{ℕ, zero, suc, _+_, _*_, _/_, _%_, _^_, _≤_, _<_}
+use native.Mathlib.Nat.{mul-right-comm, mul-one, one-mul, mul-pos, zero-mul, zero-div, le-trans, lt-of-le-of-lt, mul-le-mul-right, div-lt-iff-lt-mul, mul-lt-mul-of-pos-right, le-of-eq, zero-lt-suc}
 use native.Mathlib.Omega.{arith}
-use lib.Dec.{T, eqb, ltb, leb, ltb→lt, leb→le, lit<, lit≤}
-use lib.Pow.{pow-pos, pow-add}
+use lib.Dec.{T, eqb, ltb, leb, ltb→lt, leb→le, lit<}
+use lib.Pow.{pow-pos}
 use lib.IntN.{ℤ, pos}
-use lib.Ieee.{Float, nan, inf, fin, Format, binary32, binary64, prec, emax, low, up, down, lt, neg, mul, round, fits, ofBits, toUnsigned}
+use lib.Ieee.{Float, nan, inf, fin, Format, binary32, binary64, prec, emax, low, up, down, lt, neg, mul, round, fits, toUnsigned}
 use lib.Ieee.Fits.{down-pos, and-l, and-r}
 use lib.Ieee.Exact.{HasValue}
-use lib.Ieee.Nearest.{div-same}
 use borrow.Author.Tests.{ltb-false}
 use Rattle.float.specs.Finite.{power, exceeds}
+use Rattle.float.specs.Floor.{floor}
 use Rattle.float.proofs.Bound.{magnitude, no-infinity}
 use Rattle.float.proofs.Product.{mul-value}
+use Rattle.float.proofs.Floor.{floor-whole, floor-div, floor-same}
 use Rattle.float.proofs.Dyadic.{scaled-exact}
 use Rattle.float.proofs.Truncate.{above-minus-one, below-word, whole-part}
-use Rattle.cosine.specs.Step.{wholePart, stepOfFrequency}
+use Rattle.cosine.specs.Step.{stepOfFrequency}
 use Rattle.cosine.specs.Angle.{stepOfAngle}
 
 -- ---- what fits has few digits and no small exponent
@@ -60,11 +61,14 @@ pub record Cut (y : Float) (n : ℕ) : Type 0 where
   pub high : T (lt y (fin false 1 (pos 64)))
   pub is : toUnsigned 64 y ≡ n
 
-cut : (y : Float) (m : ℕ) (e : ℤ) → HasValue y false (m * up e * 2 ^ 46) (down e) → m * up e ≤ 2 ^ 16 * down e → Cut y (m * up e * 2 ^ 46 / down e)
-cut y m e v l = record {
+cut : (y : Float) (s : Bool) (m : ℕ) (e : ℤ) → HasValue y false (m * up e * 2 ^ 46) (down e) → m * up e ≤ 2 ^ 16 * down e →
+    Cut y (floor (2 ^ 46) 1 (fin s m e))
+cut y s m e v l = record {
   low = above-minus-one y (m * up e * 2 ^ 46) (down e) v;
   high = below-word y (m * up e * 2 ^ 46) (down e) (down-pos e) v (small (m * up e) (down e) (down-pos e) l);
-  is = whole-part 64 y (m * up e * 2 ^ 46) (down e) (down-pos e) v (div-lt-iff-lt-mul (down-pos e) .1 (small (m * up e) (down e) (down-pos e) l));
+  is =
+      whole-part 64 y (m * up e * 2 ^ 46) (down e) (down-pos e) v (div-lt-iff-lt-mul (down-pos e) .1 (small (m * up e) (down e) (down-pos e) l))
+      ∙ sym (floor-whole (2 ^ 46) s m e);
 }
 
 -- ---- the three branches of the code, at y = x × 2^46
@@ -132,69 +136,45 @@ nan-product : up46 nan ≡ nan
 unfolding mul
 nan-product = refl
 
-pub under : (x : Float) → T (fits binary32 x) → exceeds (power 16) x ≡ false → lt (up46 x) zero-double ≡ true → Cut (neg (up46 x)) (wholePart 46 x)
-unfolding wholePart
+pub under : (x : Float) → T (fits binary32 x) → exceeds (power 16) x ≡ false → lt (up46 x) zero-double ≡ true → Cut (neg (up46 x)) (floor (2 ^ 46) 1 x)
 under nan f h k = absurd (not-nan (ap (λ (y : Float). lt y zero-double) (sym nan-product) ∙ k))
 under (inf s) f h k = absurd (no-infinity 16 s h)
 under (fin s m e) f h k =
     let l = magnitude 16 s m e h in
     let v = scale s m e (lib.Ieee.Fits.fits-widens (fin s m e) f) l in
     let p : not s ≡ false = ap not (below-zero (up46 (fin s m e)) s (m * up e * 2 ^ 46) (down e) v k) in
-    cut (neg (up46 (fin s m e))) m e (subst (λ (b : Bool). HasValue (neg (up46 (fin s m e))) b (m * up e * 2 ^ 46) (down e)) p (neg-value (up46 (fin s m e)) s (m * up e * 2 ^ 46) (down e) v)) l
+    cut (neg (up46 (fin s m e))) s m e (subst (λ (b : Bool). HasValue (neg (up46 (fin s m e))) b (m * up e * 2 ^ 46) (down e)) p (neg-value (up46 (fin s m e)) s (m * up e * 2 ^ 46) (down e) v)) l
 
 nan-above : lt zero-double nan ≡ true → ⊥
 unfolding lt
 nan-above h = mathlib.Core.Bool.false≢true h
 
-pub over : (x : Float) → T (fits binary32 x) → exceeds (power 16) x ≡ false → lt zero-double (up46 x) ≡ true → Cut (up46 x) (wholePart 46 x)
-unfolding wholePart
+pub over : (x : Float) → T (fits binary32 x) → exceeds (power 16) x ≡ false → lt zero-double (up46 x) ≡ true → Cut (up46 x) (floor (2 ^ 46) 1 x)
 over nan f h k = absurd (nan-above (ap (λ (y : Float). lt zero-double y) (sym nan-product) ∙ k))
 over (inf s) f h k = absurd (no-infinity 16 s h)
 over (fin s m e) f h k =
     let l = magnitude 16 s m e h in
     let v = scale s m e (lib.Ieee.Fits.fits-widens (fin s m e) f) l in
-    cut (up46 (fin s m e)) m e (subst (λ (b : Bool). HasValue (up46 (fin s m e)) b (m * up e * 2 ^ 46) (down e)) (above-zero (up46 (fin s m e)) s (m * up e * 2 ^ 46) (down e) v k) v) l
+    cut (up46 (fin s m e)) s m e (subst (λ (b : Bool). HasValue (up46 (fin s m e)) b (m * up e * 2 ^ 46) (down e)) (above-zero (up46 (fin s m e)) s (m * up e * 2 ^ 46) (down e) v k) v) l
 
-pub flat : (x : Float) → T (fits binary32 x) → exceeds (power 16) x ≡ false → lt (up46 x) zero-double ≡ false → lt zero-double (up46 x) ≡ false → 0 ≡ wholePart 46 x
-unfolding wholePart
+pub flat : (x : Float) → T (fits binary32 x) → exceeds (power 16) x ≡ false → lt (up46 x) zero-double ≡ false → lt zero-double (up46 x) ≡ false → 0 ≡ floor (2 ^ 46) 1 x
+unfolding floor
 flat nan f h j k = refl
 flat (inf s) f h j k = refl
 flat (fin s m e) f h j k =
     let l = magnitude 16 s m e h in
     let v = scale s m e (lib.Ieee.Fits.fits-widens (fin s m e) f) l in
-    sym (ap (λ (n : ℕ). n / down e) (neither (up46 (fin s m e)) s (m * up e * 2 ^ 46) (down e) (down-pos e) v j k) ∙ zero-over (down e))
-  where
-    zero-over : (d : ℕ) → 0 / d ≡ 0
-    zero-over d = native.Mathlib.Nat.zero-div d
+    let none : m * up e * 2 ^ 46 ≡ 0 = neither (up46 (fin s m e)) s (m * up e * 2 ^ 46) (down e) (down-pos e) v j k in
+    sym (ap (λ (n : ℕ). n / (down e * 1)) none ∙ zero-div (down e * 1))
 
 -- ---- the steps read off it
-pub frequency-step : (x : Float) → wholePart 46 x / 2 ^ 37 ≡ stepOfFrequency x
-unfolding stepOfFrequency wholePart
-frequency-step nan = refl
-frequency-step (inf s) = refl
-frequency-step (fin s m e) =
-    div-div-eq-div-mul (m * up e * 2 ^ 46) (down e) (2 ^ 37)
-    ∙ div-same (m * up e * 2 ^ 46) (down e * 2 ^ 37) (m * up e * 2 ^ 9) (down e) (mul-pos (down-pos e) (pow-pos 37)) (down-pos e) (cross (m * up e) (down e))
-  where
-    cross : (n d : ℕ) → n * 2 ^ 46 * d ≡ n * 2 ^ 9 * (d * 2 ^ 37)
-    cross n d = mul-right-comm n (2 ^ 46) d ∙ sym (ap (λ (z : ℕ). n * 2 ^ 9 * z) (mul-comm d (2 ^ 37)) ∙ sym (mul-assoc (n * 2 ^ 9) (2 ^ 37) d) ∙ ap (λ (z : ℕ). z * d) (mul-assoc n (2 ^ 9) (2 ^ 37)) ∙ mul-right-comm n (2 ^ 46) d)
+pub sixteenth : (x : Float) → floor (2 ^ 46) 1 x / 16 ≡ floor (2 ^ 42) 1 x
+sixteenth x = floor-div (2 ^ 46) 1 16 x ∙ floor-same (2 ^ 46) (1 * 16) (2 ^ 42) 1 x (lit< tt) (lit< tt) refl
 
-pub angle-step : (x : Float) → wholePart 46 x / 13176795 ≡ stepOfAngle x
-unfolding stepOfAngle wholePart
-angle-step nan = refl
-angle-step (inf s) = refl
-angle-step (fin s m e) = div-div-eq-div-mul (m * up e * 2 ^ 46) (down e) 13176795
+pub frequency-step : (x : Float) → floor (2 ^ 46) 1 x / 2 ^ 37 ≡ stepOfFrequency x
+unfolding stepOfFrequency
+frequency-step x = floor-div (2 ^ 46) 1 (2 ^ 37) x ∙ floor-same (2 ^ 46) (1 * 2 ^ 37) 512 1 x (lit< tt) (lit< tt) refl
 
--- ---- their bounds
-pub whole-le : (k : ℕ) (x : Float) → exceeds (power k) x ≡ false → wholePart 46 x ≤ 2 ^ k * 2 ^ 46
-unfolding wholePart
-whole-le k nan h = Prim.Native.Nat.zero-le
-whole-le k (inf s) h = Prim.Native.Nat.zero-le
-whole-le k (fin s m e) h = down-to (m * up e) (down e) (down-pos e) (magnitude k s m e h)
-  where
-    down-to : (n d : ℕ) → 0 < d → n ≤ 2 ^ k * d → n * 2 ^ 46 / d ≤ 2 ^ k * 2 ^ 46
-    down-to n d D l =
-        native.Mathlib.Nat.le-of-suc-le-suc
-        (div-lt-iff-lt-mul D .1
-        (lt-of-le-of-lt (le-trans (mul-le-mul-right (2 ^ 46) l) (le-of-eq (mul-right-comm (2 ^ k) d (2 ^ 46))))
-        (mul-lt-mul-of-pos-right (native.Mathlib.Nat.lt-suc-self (2 ^ k * 2 ^ 46)) D)))
+pub angle-step : (x : Float) → floor (2 ^ 46) 1 x / 13176795 ≡ stepOfAngle x
+unfolding stepOfAngle
+angle-step x = floor-div (2 ^ 46) 1 13176795 x

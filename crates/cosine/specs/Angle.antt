@@ -1,8 +1,9 @@
 -- Angle of a step, and step of an angle: a step is π / 2^24, and π is the Rust's single constant, 13176795 / 2^22.
--- Document 01, B36 and B40. Assumes nothing.
+-- Added by design: the cosine rule, in place of an arc cosine and a cosine. Document 01, B36 and B40. Assumes nothing.
 use mathlib.Core.Bool.{false}
-use Prim.Native.Nat.{ℕ, _*_, _/_, _^_}
-use lib.Ieee.{Float, nan, inf, fin, binary32, up, down, round}
+use Prim.Native.Nat.{ℕ, _*_, _^_}
+use lib.Ieee.{Float, binary32, round}
+use Rattle.float.specs.Floor.{floor}
 
 -- k × π / 2^24, rounded once to single
 unfoldable pub angle : ℕ → Float
@@ -10,6 +11,4 @@ angle k = round binary32 false (k * 13176795) (2 ^ 22 * 2 ^ 24)
 
 -- the greatest whole number ≤ |angle| × 2^24 / π, in exact arithmetic
 unfoldable pub stepOfAngle : Float → ℕ
-stepOfAngle nan = 0
-stepOfAngle (inf s) = 0
-stepOfAngle (fin s m e) = m * up e * (2 ^ 24 * 2 ^ 22) / (down e * 13176795)
+stepOfAngle a = floor (2 ^ 24 * 2 ^ 22) 13176795 a

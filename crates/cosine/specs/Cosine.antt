@@ -1,5 +1,5 @@
 -- Cosine of a step: half a circle has 2^24 steps, and between two entries of the table it goes linearly.
--- Document 01, C1, C2 and C5. Laws: proofs/Blend.antt, proofs/Exact.antt. Assumes nothing.
+-- Added by design. Document 01, C1, C2 and C5. Laws: proofs/Blend.antt, proofs/Exact.antt. Assumes nothing.
 use mathlib.Core.Bool.{cond, true, false}
 use Prim.Native.Nat.{ℕ, suc, _-_, _/_, _%_, _^_}
 use lib.Dec.{leb}

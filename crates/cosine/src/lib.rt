@@ -6,10 +6,11 @@ ghost use mathlib.Core.Bool.{true, false};
 ghost use lib.IntN.{pos};
 ghost use lib.Ieee.{fin, lt};
 ghost use Rattle.float.specs.Finite.{power, exceeds};
+ghost use Rattle.float.specs.Floor.{floor};
 ghost use Rattle.quarter.specs.Quarter.{quarter, quarterTable};
 ghost use Rattle.cosine.specs.Cosine.{folded, cosine, cosineSingle};
 ghost use Rattle.cosine.specs.inner.Low.{low};
-ghost use Rattle.cosine.specs.Step.{held, above, step, wholePart, stepOfFrequency, frequency};
+ghost use Rattle.cosine.specs.Step.{held, above, step, stepOfFrequency, frequency};
 ghost use Rattle.cosine.specs.inner.Search.{entryWithin, LowStep, wholeBelow};
 ghost use Rattle.cosine.specs.Angle.{angle, stepOfAngle};
 
@@ -105,7 +106,7 @@ fn low_step(t: &[u32; 2049], n: u64) -> u32
 // |x| × 2^46, rounded down.
 fn whole_part(x: f32) -> u64
     requires { ⌜ exceeds (power 16) x ≡ false ⌝ }
-    ensures { λ r. ⌜ r ≡ wholePart 46 x ⌝ }
+    ensures { λ r. ⌜ r ≡ floor (2 ^ 46) 1 x ⌝ }
 {
     let y = std::num::f32_to_f64_with_nan(x) * 70368744177664.0;
     if y < 0.0 {

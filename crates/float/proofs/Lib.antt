@@ -14,9 +14,11 @@ pub mod Product
 pub mod Rounded
 pub mod Error
 pub mod Near
+pub mod Growth
 pub mod Dyadic
 pub mod Truncate
 pub mod Bound
+pub mod Floor
 pub mod Range
 pub mod HalfEven
 pub mod Units

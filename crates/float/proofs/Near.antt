@@ -1,19 +1,22 @@
--- Sums, differences and products of singles in whole units of 2^-149, and how far rounding moves them: where the exact result is below 2 ^ (24 + k) units, what is
--- computed is a finite single within half of 2 ^ k units of it. A value x is plus x - less x units; one lemma, `near-of`, serves all three. Assumes nothing.
+-- Sums, differences and products of singles in whole units of 2^-149, and how far rounding moves them: where the exact result is below 2
+-- ^ (24 + k) units, what is computed is a finite single within half of 2 ^ k units of it. A value x is plus x - less x units; one lemma,
+-- `near-of`, serves all three. Assumes nothing.
 use mathlib.Core.Path.{_≡_, refl, sym, ap, _∙_, subst}
 use mathlib.Core.Bool.{Bool, true, false, not, _&&_, cond}
 use mathlib.Core.Logic.{_⊎_, inl, inr}
 use Prim.Native.Nat.{ℕ, zero, suc, _+_, _-_, _*_, _/_, _%_, _^_, _≤_, _<_}
-use native.Mathlib.Nat.{le-of-lt, le-trans, le-of-eq, lt-of-lt-of-le, lt-irrefl, mul-assoc, mul-comm, mul-left-comm, mul-right-comm, mul-zero, one-mul, mul-one, add-mul, mul-sub, mul-pos, mul-div-cancel, mul-le-mul-right, mul-lt-mul-of-pos-right, lt-of-mul-lt-mul-right, le-of-mul-le-mul-right}
+use native.Mathlib.Nat.{le-of-lt, le-trans, le-of-eq, lt-of-lt-of-le, mul-assoc, mul-comm, mul-right-comm, mul-zero, one-mul, mul-one, add-mul, mul-sub, mul-pos, mul-div-cancel, mul-le-mul-right, le-of-mul-le-mul-right}
 use native.Mathlib.Omega.{arith}
 use lib.Dec.{T, ltb, leb, eqb, ltb→lt, nltb→le, leb→le, eqb→eq}
-use lib.Pow.{pow-add, pow-pos}
+use lib.Pow.{pow-pos}
 use lib.IntN.{ℤ}
 use lib.Ieee.{Float, nan, inf, fin, binary32, up, down, unlike, round, neg, sum, add, sub, mul, fits}
 use lib.Ieee.Exact.{HasValue}
 use lib.Ieee.Fits.{down-pos, up-pos, neg-fits, and-l, and-r}
 use lib.Ieee.Scale.{finite, round-same}
-use Rattle.float.specs.Difference.{count, plus, less, difference}
+use Rattle.float.specs.Floor.{floor}
+use Rattle.float.specs.Difference.{negative, unitsOf, plus, less}
+use Rattle.float.proofs.Floor.{floor-whole, floor-value}
 use Rattle.float.proofs.Error.{Rounding, round-near}
 use Rattle.float.proofs.Product.{mul-value}
 use Rattle.float.proofs.Rounded.{place}
@@ -41,30 +44,29 @@ down-le s (suc m) e h =
     leb→le (down e) unit (and-r (A && B) C (and-l (A && B && C) D h))
 
 -- its units are whole
-counts : (s : Bool) (m : ℕ) (e : ℤ) → T (fits binary32 (fin s m e)) → m * up e * unit ≡ count m e * down e
-unfolding count
+counts : (s : Bool) (m : ℕ) (e : ℤ) → T (fits binary32 (fin s m e)) → m * up e * unit ≡ unitsOf (fin s m e) * down e
 counts s m e h =
     let p = place 149 e (down-le s m e h) in
-    p .1 m ∙ ap (λ (x : ℕ). x * down e) (sym (ap (λ (x : ℕ). x / down e) (p .1 m) ∙ mul-div-cancel (m * 2 ^ p .0) (down-pos e)))
+    p .1 m
+    ∙ ap (λ (x : ℕ). x * down e)
+    (sym (floor-whole unit s m e ∙ ap (λ (x : ℕ). x / down e) (p .1 m) ∙ mul-div-cancel (m * 2 ^ p .0) (down-pos e)))
 
-pub value-units : (s : Bool) (m : ℕ) (e : ℤ) → T (fits binary32 (fin s m e)) → HasValue (fin s m e) s (count m e) unit
+pub value-units : (s : Bool) (m : ℕ) (e : ℤ) → T (fits binary32 (fin s m e)) → HasValue (fin s m e) s (unitsOf (fin s m e)) unit
 value-units s m e h = (refl, counts s m e h)
 
 -- a value in units, above or below zero
 pub units-of : (x : Float) (s : Bool) (a : ℕ) → HasValue x s a unit → (plus x ≡ cond s 0 a) × (less x ≡ cond s a 0)
-unfolding count plus less
+unfolding negative plus less
 units-of nan s a v = absurd v
 units-of (inf t) s a v = absurd v
-units-of (fin t m e) s a v = go t s (v .0)
+units-of (fin t m e) s a v =
+    (ap (λ (b : Bool). cond b 0 n) (v .0) ∙ ap (cond s 0) is, ap (λ (b : Bool). cond b n 0) (v .0) ∙ ap (λ (x : ℕ). cond s x 0) is)
   where
-    is : count m e ≡ a
-    is = ap (λ (x : ℕ). x / down e) (v .1) ∙ mul-div-cancel a (down-pos e)
+    n : ℕ
+    n = unitsOf (fin t m e)
 
-    go : (t s : Bool) → t ≡ s → (plus (fin t m e) ≡ cond s 0 a) × (less (fin t m e) ≡ cond s a 0)
-    go true true e = (refl, is)
-    go false false e = (is, refl)
-    go true false e = absurd (mathlib.Core.Bool.true≢false e)
-    go false true e = absurd (mathlib.Core.Bool.true≢false (sym e))
+    is : n ≡ a
+    is = floor-value unit (fin t m e) s a unit (pow-pos 149) v ∙ mul-div-cancel a (pow-pos 149)
 
 -- ---- near: c times z is within half of c times e units of p - l
 pub record Near (c : ℕ) (z : Float) (p l e : ℕ) : Type 0 where
@@ -155,14 +157,18 @@ add-near (inf s) y k p q K h = absurd (p .fin?)
 add-near (fin s m e) nan k p q K h = absurd (q .fin?)
 add-near (fin s m e) (inf t) k p q K h = absurd (q .fin?)
 add-near (fin s m e) (fin t n d) k p q K h =
-    let u = units-of (fin s m e) s (count m e) (value-units s m e (p .fit)) in
-    let v = units-of (fin t n d) t (count n d) (value-units t n d (q .fit)) in
+    let a = unitsOf (fin s m e) in
+    let b = unitsOf (fin t n d) in
+    let u = units-of (fin s m e) s a (value-units s m e (p .fit)) in
+    let v = units-of (fin t n d) t b (value-units t n d (q .fit)) in
     let A = m * up e * down d in
     let B = n * up d * down e in
     let C = down e * down d in
-    let near : Near 1 (sum binary32 s A t B C) (cond s 0 (count m e) + cond t 0 (count n d)) (cond s (count m e) 0 + cond t (count n d) 0) (2 ^ k) =
-    sum-near s A t B C (count m e) (count n d) k (mul-pos (down-pos e) (down-pos d)) K (cross (m * up e) (down e) (down d) (count m e) (counts s m e (p .fit))) (cross (n * up d) (down d) (down e) (count n d) (counts t n d (q .fit)) ∙ ap (λ (c : ℕ). count n d * c) (mul-comm (down d) (down e)))
-    (rw (← u .0, ← u .1, ← v .0, ← v .1) h) in
+    let x : A * unit ≡ a * C = cross (m * up e) (down e) (down d) a (counts s m e (p .fit)) in
+    let y : B * unit ≡ b * C =
+    cross (n * up d) (down d) (down e) b (counts t n d (q .fit)) ∙ ap (λ (c : ℕ). b * c) (mul-comm (down d) (down e)) in
+    let near : Near 1 (sum binary32 s A t B C) (cond s 0 a + cond t 0 b) (cond s a 0 + cond t b 0) (2 ^ k) =
+    sum-near s A t B C a b k (mul-pos (down-pos e) (down-pos d)) K x y (rw (← u .0, ← u .1, ← v .0, ← v .1) h) in
     rw (u .0, u .1, v .0, v .1) near
 
 -- the negative has the two exchanged
@@ -176,9 +182,10 @@ pub neg-good : (x : Float) → Good x → Good (neg x)
 neg-good x p = record { fit = neg-fits binary32 x (p .fit); fin? = neg-finite x (p .fin?) }
 
 pub plus-neg : (x : Float) → (plus (neg x) ≡ less x) × (less (neg x) ≡ plus x)
-unfolding neg plus less
+unfolding neg negative floor plus less
 plus-neg nan = (refl, refl)
-plus-neg (inf s) = (refl, refl)
+plus-neg (inf true) = (refl, refl)
+plus-neg (inf false) = (refl, refl)
 plus-neg (fin true m e) = (refl, refl)
 plus-neg (fin false m e) = (refl, refl)
 
@@ -193,13 +200,13 @@ sub-near x y k p q K h =
 pub mul-near : (x y : Float) (b c k : ℕ) → 0 < c → HasValue x false b c → Good y → k ≤ 252 → b * (plus y + less y) < 2 ^ (24 + k) * c → Near c (mul binary32 x y) (b * plus y) (b * less y) (2 ^ k)
 mul-near x nan b c k C v q K h = absurd (q .fin?)
 mul-near x (inf t) b c k C v q K h = absurd (q .fin?)
-mul-near x (fin t n d) b c k C v q K h = go t (value-units t n d (q .fit)) (units-of (fin t n d) t (count n d) (value-units t n d (q .fit))) h
+mul-near x (fin t n d) b c k C v q K h = go t (value-units t n d (q .fit)) (units-of (fin t n d) t (unitsOf (fin t n d)) (value-units t n d (q .fit))) h
   where
     y : Bool → Float
     y t = fin t n d
 
     a : ℕ
-    a = count n d
+    a = unitsOf (fin t n d)
 
     rounds : (t : Bool) → HasValue (y t) t a unit → unlike false t ≡ t → b * a < 2 ^ (24 + k) * c → Rounding binary32 (mul binary32 x (y t)) t (b * a) c (2 ^ k)
     rounds t w e l =
@@ -222,7 +229,8 @@ mul-near x (fin t n d) b c k C v q K h = go t (value-units t n d (q .fit)) (unit
 -- one of the two is 0
 pub one-side : (x : Float) → (plus x ≡ 0) ⊎ (less x ≡ 0)
 unfolding plus less
-one-side nan = inl refl
-one-side (inf s) = inl refl
-one-side (fin false m e) = inr refl
-one-side (fin true m e) = inl refl
+one-side x = go (negative x)
+  where
+    go : (s : Bool) → (cond s 0 (unitsOf x) ≡ 0) ⊎ (cond s (unitsOf x) 0 ≡ 0)
+    go true = inl refl
+    go false = inr refl

@@ -1,18 +1,17 @@
--- Whole numbers as singles, in units of 2^-149: a number below 2^24 in size is exact. And what is known of a finite single by its units: it does not exceed 2^k
--- where it has no more than 2^k × 2^149 of them. Assumes nothing.
-use mathlib.Core.Path.{_≡_, refl, sym, ap, _∙_, subst}
-use mathlib.Core.Bool.{Bool, true, false, not, _||_, cond}
-use Prim.Native.Nat.{ℕ, zero, suc, _+_, _*_, _^_, _≤_, _<_, zero-le}
-use native.Mathlib.Nat.{le-trans, le-of-eq, mul-one, one-mul, mul-assoc, mul-right-comm, mul-comm, mul-le-mul-right, le-of-mul-le-mul-right}
+-- Whole numbers as singles, in units of 2^-149: a number below 2^24 in size is exact. And what is known of a finite single by its units:
+-- it does not exceed 2^k where it has no more than 2^k × 2^149 of them. Assumes nothing.
+use mathlib.Core.Path.{_≡_, sym, ap, _∙_}
+use mathlib.Core.Bool.{Bool, true, false, not, _||_}
+use Prim.Native.Nat.{ℕ, suc, _*_, _^_, _≤_, _<_, zero-le}
+use native.Mathlib.Nat.{le-trans, le-of-eq, mul-one, one-mul, mul-right-comm, mul-le-mul-right, le-of-mul-le-mul-right}
 use lib.Arith.{le→nltb}
 use lib.Dec.{T, ltb}
 use lib.Pow.{pow-pos}
 use lib.IntN.{ℤ, pos, negsuc}
-use lib.Ieee.{Float, nan, inf, fin, binary32, up, down, round, ofInt, lt, neg, fits}
+use lib.Ieee.{Float, nan, inf, fin, binary32, up, down, round, ofInt, lt, neg}
 use lib.Ieee.Exact.{HasValue}
 use lib.Ieee.Fits.{ofInt-fits}
-use lib.Ieee.Scale.{finite}
-use Rattle.float.specs.Difference.{count, plus, less}
+use Rattle.float.specs.Difference.{negative, unitsOf, plus, less}
 use Rattle.float.specs.Finite.{power, exceeds}
 use Rattle.float.proofs.Dyadic.{dyadic-exact}
 use Rattle.float.proofs.Near.{unit, Good, value-units, units-of}
@@ -68,11 +67,11 @@ no-more true m e k h = no (ltb (1 * 2 ^ k * down e) (m * up e * 1)) (not-and (lt
     not-and false n t = t
 
 pub units-bound : (x : Float) (k : ℕ) → Good x → plus x ≤ 2 ^ k * unit → less x ≤ 2 ^ k * unit → exceeds (power k) x ≡ false
-unfolding plus less
+unfolding negative plus less
 units-bound nan k g h l = absurd (g .fin?)
 units-bound (inf s) k g h l = absurd (g .fin?)
 units-bound (fin s m e) k g h l = no-more s m e k (le-of-mul-le-mul-right (le-trans (le-of-eq (value-units s m e (g .fit) .1)) (le-trans (mul-le-mul-right (down e) (size s h l)) (le-of-eq (mul-right-comm (2 ^ k) unit (down e))))) (pow-pos 149))
   where
-    size : (s : Bool) → plus (fin s m e) ≤ 2 ^ k * unit → less (fin s m e) ≤ 2 ^ k * unit → count m e ≤ 2 ^ k * unit
+    size : (s : Bool) → plus (fin s m e) ≤ 2 ^ k * unit → less (fin s m e) ≤ 2 ^ k * unit → unitsOf (fin s m e) ≤ 2 ^ k * unit
     size false h l = h
     size true h l = l

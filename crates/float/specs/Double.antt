@@ -1,5 +1,5 @@
 -- Arithmetic at double precision, each operation rounded once, and constants by their value: `double 3 8` is 0.375.
--- Document 01, A6. Assumes nothing.
+-- Vocabulary (IEEE 754's binary64), of no section of the Recommendation. Document 01, A6. Assumes nothing.
 use Prim.Native.Nat.{ℕ}
 use mathlib.Core.Bool.{false}
 use lib.Ieee.{Float, binary64, add, sub, mul, div, round}

@@ -1,5 +1,5 @@
 -- The tests behind refusals 5 and 6: a value that is infinite or not a number, and one whose magnitude exceeds a bound.
--- Document 01, B3. Assumes nothing.
+-- Added by design. Document 01, B3. Assumes nothing.
 use mathlib.Core.List.{List}
 use Prim.Native.Nat.{ℕ}
 use mathlib.Core.Bool.{Bool, false, not, _||_}

@@ -10,4 +10,5 @@ pub mod Narrow
 pub mod Vector
 pub mod Lines
 pub mod Pattern
+pub mod Floor
 pub mod Difference

@@ -1,5 +1,5 @@
 -- A refusal where ten lines are asked for: its number, and ten zeros.
--- Document 01, B1 and B2. Assumes nothing.
+-- Added by design. Document 01, B1 and B2. Assumes nothing.
 use Prim.Native.Nat.{ℕ}
 use Rattle.float.specs.Vector.{zeros}
 use Rattle.float.specs.declared.Lines.{Lines}

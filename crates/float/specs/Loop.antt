@@ -1,6 +1,7 @@
--- Loops in the order in which the code runs them: `over a b step s` is `for i in a..b`, from the state s, and `back a b` the same from b - 1 down to a.
--- `sum f a b term` adds term a, .., term (b - 1) one after the other to +0, each sum rounded to the format f.
--- Their laws are in `proofs/Loop.antt`. Assumes nothing.
+-- Loops in the order in which the code runs them: `over a b step s` is `for i in a..b`, from the state s, and `back a b` the same from
+-- b - 1 down to a. `sum f a b term` adds term a, .., term (b - 1) one after the other to +0, each sum rounded to the format f.
+-- Vocabulary, of no section of the Recommendation. Document 01, A6: the order of a sum is the Rust's. Their laws are in
+-- `proofs/Loop.antt`. Assumes nothing.
 use Prim.Native.Nat.{ℕ, zero, suc, _+_, _-_}
 use mathlib.Core.Bool.{false}
 use lib.IntN.{pos}

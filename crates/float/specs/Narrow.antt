@@ -1,5 +1,5 @@
 -- A value rounded once to a format, to nearest, ties to even. One type serves both formats, so widening a single changes nothing.
--- Document 01, A7. Its laws are in `proofs/Rounded.antt`. Assumes nothing.
+-- Vocabulary, of no section of the Recommendation. Document 01, A7. Its laws are in `proofs/Rounded.antt`. Assumes nothing.
 use Prim.Native.Nat.{_*_}
 use lib.Ieee.{Float, nan, inf, fin, Format, binary32, up, down, round}
 

@@ -1,5 +1,5 @@
 -- Arithmetic at single precision, each operation rounded once, and constants by their value: `single 3 8` is 0.375.
--- Document 01, A6. Assumes nothing.
+-- Vocabulary (IEEE 754's binary32), of no section of the Recommendation. Document 01, A6. Assumes nothing.
 use Prim.Native.Nat.{ℕ}
 use mathlib.Core.Bool.{false}
 use lib.Ieee.{Float, binary32, add, sub, mul, div, round}

@@ -1,5 +1,5 @@
 -- Lists of floats by their places, the first one at 0: `at xs i`, which is a NaN beyond the end, and `zeros n`, which is n times +0.
--- Assumes nothing.
+-- Vocabulary, of no section of the Recommendation. Document 01, B2: a refusal returns zeros. Assumes nothing.
 use Prim.Native.Nat.{ℕ}
 use mathlib.Core.Bool.{false}
 use mathlib.Core.List.{List}

@@ -6,3 +6,4 @@ pub mod Window
 pub mod Winner
 pub mod Standing
 pub mod Greatest
+pub mod Preferred

@@ -1,5 +1,6 @@
 -- A search over lags a, .., b - 1: the first lag that counts wins, and a later one takes its place where the rule `beats` says so.
--- Document 01, B49, B50 and B52. What the winner is, whatever the rule: proofs/Winner.antt. Assumes nothing.
+-- §2.9, §2.11; document 01, B49, B50 and B52. What the winner is, whatever the rule: proofs/Winner.antt, proofs/Standing.antt; and by
+-- either rule: proofs/Preferred.antt, proofs/Greatest.antt. Assumes nothing.
 use mathlib.Core.Bool.{Bool, true, false, not, _||_, cond}
 use mathlib.Core.List.{List}
 use Prim.Native.Nat.{ℕ, _+_}

@@ -1,4 +1,5 @@
--- `open_loop_pitch`: the whole answer on every buffer, for lags 18 up to a limit. The limit is 142, and limit + 3 samples of history stand before the frame.
+-- `open_loop_pitch`: the whole answer on every buffer, for lags 18 up to a limit. The limit is 142, and limit + 3 samples of history
+-- stand before the frame.
 -- §2.9; document 01, B48 to B51, with B1 to B4 for the refusals. Assumes nothing.
 use mathlib.Core.Bool.{Bool}
 use mathlib.Core.List.{List, [], _∷_}

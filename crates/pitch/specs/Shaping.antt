@@ -1,4 +1,5 @@
--- `harmonic_noise_shaping`: the whole answer on every buffer, for open-loop lags 18 up to a limit. The limit is 142; three lags more are searched on either side.
+-- `harmonic_noise_shaping`: the whole answer on every buffer, for open-loop lags 18 up to a limit. The limit is 142; three lags more are
+-- searched on either side.
 -- §2.11; document 01, B52 to B58, with B1 to B4 for the refusals. Assumes nothing.
 use mathlib.Core.Bool.{Bool, not, _||_, cond}
 use mathlib.Core.List.{List, [], _∷_}

@@ -1,5 +1,6 @@
--- The quarter cosine: entry i, for i from 0 to 2,048, is the whole number nearest 2^30 × cos(π × i / 4096), and 4,096 entries go round half a circle.
--- Document 01, "The cosine rule, at the bottom". The numbers stand in rows of 32, because a look-up in a list walks to its place.
+-- The quarter cosine: entry i, for i from 0 to 2,048, is the whole number nearest 2^30 × cos(π × i / 4096), and 4,096 entries go round
+-- half a circle.
+-- Added by design. Document 01, C1 and C2. The numbers stand in rows of 32, because a look-up in a list walks to its place.
 -- Assumes nothing.
 use mathlib.Core.Bool.{cond}
 use mathlib.Core.List.{List, [], _∷_, flatten}

@@ -79,7 +79,7 @@ angle-bound k h =
 start-bound : (c : List Float) → length c ≡ 10 → T (all finite c) → Angles 52 (map angleOf c)
 start-bound c e t = record {
   long = length-map c angleOf ∙ e;
-  each = λ i l. subst (Sixteenths 52) (sym (ap (λ (ω : List Float). at ω i) (map-table angleOf c 10 nan e) ∙ at-table 10 (λ k. angleOf (at c k)) i nan l)) (angle-bound (step (held (at c i))) (step-held (at c i) (all-at finite c t i nan (rw e l)) .1));
+  each = λ i l. subst (Sixteenths 52) (sym (ap (λ (ω : List Float). at ω i) (map-table angleOf c 10 nan e) ∙ at-table 10 (λ k. angleOf (at c k)) i nan l)) (angle-bound (step (held (at c i))) (step-held (at c i) (all-at finite c t i nan (rw e l)) .inside));
 }
 
 -- ---- the clamps

@@ -29,7 +29,7 @@ abbrev μ-loop : tie.MeasureT-loop
 -- the step of a finite cosine is one of half a circle
 half : (cosines : List Float) (i k : ℕ) → all finite cosines ≡ true → i < length cosines →
     k ≡ step (held (getD cosines i nan)) → k ≤ 2 ^ 24
-half cosines i k h l e = rw e (step-held (getD cosines i nan) (all-at finite cosines (subst T (sym h) tt) i nan l) .1)
+half cosines i k h l e = rw e (step-held (getD cosines i nan) (all-at finite cosines (subst T (sym h) tt) i nan l) .inside)
 
 found : (x r : Float) (k : ℕ) → k ≡ step (held x) → r ≡ frequency k → r ≡ freqOf x
 found x r k e f = f ∙ ap frequency e

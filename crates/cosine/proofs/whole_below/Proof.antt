@@ -9,16 +9,17 @@ use lib.Dec.{T, lit≤, le→leb}
 use lib.IntN.{pos}
 use lib.Ieee.{Float, binary64, inFloat, le, neg, mul, ofInt, ofBits}
 use Rattle.float.specs.Finite.{power, exceeds}
+use Rattle.float.specs.Floor.{floor}
 use Rattle.float.proofs.Bound.{wider}
-use Rattle.cosine.specs.Step.{wholePart}
-use Rattle.cosine.proofs.Whole.{up46, whole-le}
+use Rattle.float.proofs.Floor.{floor-le}
+use Rattle.cosine.proofs.Whole.{up46}
 use Rattle.cosine.proofs.Below.{exactly, shortly}
 use Rattle.cosine.proofs.whole_below.Statement.{statement}
 use Rattle.cosine.proofs.whole_below.Tie as tie
 
-counted : (x : Float) (n : ℕ) → exceeds (power 0) x ≡ false → n ≡ wholePart 46 x → T (inFloat binary64 (pos n))
+counted : (x : Float) (n : ℕ) → exceeds (power 0) x ≡ false → n ≡ floor (2 ^ 46) 1 x → T (inFloat binary64 (pos n))
 unfolding inFloat
-counted x n h e = le→leb n (2 ^ 53) (le-trans (le-of-eq e) (le-trans (whole-le 0 x h) (lit≤ tt)))
+counted x n h e = le→leb n (2 ^ 53) (le-trans (le-of-eq e) (le-trans (floor-le (2 ^ 46) 0 x h) (lit≤ tt)))
 
 -- the code's product, as the laws write it
 test : (x y : Float) (n : ℕ) (b : Bool) → y ≡ x → le (neg (ofInt binary64 (pos n))) (mul binary64 y (ofBits binary64 4814348001659060224)) ≡ b → le (neg (ofInt binary64 (pos n))) (up46 x) ≡ b

@@ -1,13 +1,13 @@
 -- `cosine::whole_part` meets its contract: the product is exact, and each branch cuts the magnitude. Assumes nothing.
 use borrow.Author.Needs.{needs}
-use mathlib.Core.Path.{_≡_, refl, sym, ap, _∙_, subst}
+use mathlib.Core.Path.{_≡_, sym, ap, _∙_, subst}
 use mathlib.Core.Bool.{Bool, true, false}
-use Prim.Native.Nat.{ℕ}
+use Prim.Native.Nat.{ℕ, _^_}
 use lib.Dec.{T}
 use lib.IntN.{pos}
 use lib.Ieee.{Float, fin, binary32, binary64, fits, lt, neg, mul, ofBits, toUnsigned}
 use Rattle.float.specs.Finite.{power, exceeds}
-use Rattle.cosine.specs.Step.{wholePart}
+use Rattle.float.specs.Floor.{floor}
 use Rattle.cosine.proofs.Whole.{Cut, up46, under, over, flat}
 use Rattle.cosine.proofs.whole_part.Statement.{statement}
 use Rattle.cosine.proofs.whole_part.Tie as tie
@@ -28,11 +28,11 @@ test-over : (x y : Float) (b : Bool) → y ≡ x → lt (ofBits binary64 0) (pro
 unfolding ofBits
 test-over x y b e h = ap (λ (z : Float). lt (fin false 0 (pos 0)) (up46 z)) (sym e) ∙ h
 
-cut-under : (x y : Float) → T (fits binary32 x) → exceeds (power 16) x ≡ false → y ≡ x → lt (product y) (ofBits binary64 0) ≡ true → Cut (neg (product y)) (wholePart 46 x)
-cut-under x y f h e k = subst (λ (z : Float). Cut (neg z) (wholePart 46 x)) (sym (same x y e)) (under x f h (test-under x y true e k))
+cut-under : (x y : Float) → T (fits binary32 x) → exceeds (power 16) x ≡ false → y ≡ x → lt (product y) (ofBits binary64 0) ≡ true → Cut (neg (product y)) (floor (2 ^ 46) 1 x)
+cut-under x y f h e k = subst (λ (z : Float). Cut (neg z) (floor (2 ^ 46) 1 x)) (sym (same x y e)) (under x f h (test-under x y true e k))
 
-cut-over : (x y : Float) → T (fits binary32 x) → exceeds (power 16) x ≡ false → y ≡ x → lt (ofBits binary64 0) (product y) ≡ true → Cut (product y) (wholePart 46 x)
-cut-over x y f h e k = subst (λ (z : Float). Cut z (wholePart 46 x)) (sym (same x y e)) (over x f h (test-over x y true e k))
+cut-over : (x y : Float) → T (fits binary32 x) → exceeds (power 16) x ≡ false → y ≡ x → lt (ofBits binary64 0) (product y) ≡ true → Cut (product y) (floor (2 ^ 46) 1 x)
+cut-over x y f h e k = subst (λ (z : Float). Cut z (floor (2 ^ 46) 1 x)) (sym (same x y e)) (over x f h (test-over x y true e k))
 
 -- what the cast asks, and what it answers
 asked : (y : Float) (n : ℕ) → Cut y n → T (lt (fin true 1 (pos 0)) y) × T (lt y (fin false 1 (pos 64)))

@@ -1,5 +1,5 @@
 -- What the search behind `step` answers on its way; a caller's contract names none of it.
--- Document 01, C6. Assumes nothing.
+-- Added by design. Document 01, C6. Assumes nothing.
 use mathlib.Core.Bool.{Bool}
 use Prim.Native.Nat.{ℕ, _-_, _*_, _/_, _^_, _≤_, _<_}
 use lib.Dec.{leb}

@@ -1,5 +1,6 @@
--- Four lags' sums, one sample more: f is the sample, x and q hold the delayed ones and their squares from place k on. Each sum is added to once.
--- Assumes nothing.
+-- Four lags' sums, one sample more: f is the sample, x and q hold the delayed ones and their squares from place k on. Each sum is added
+-- to once.
+-- §2.9 (eq. 12), §2.11 (eq. 14); document 01, A6, B48 and B52. Assumes nothing.
 use mathlib.Core.List.{List}
 use Prim.Native.Nat.{ℕ, _+_}
 use lib.Ieee.{Float, nan}

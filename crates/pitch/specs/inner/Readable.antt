@@ -1,4 +1,5 @@
--- What the work may count on once the check has passed: the samples that it reads are there, and finite. Assumes nothing.
+-- What the work may count on once the check has passed: the samples that it reads are there, and finite.
+-- §2.9, §2.11; document 01, B51 and B58. Assumes nothing.
 use mathlib.Core.Path.{_≡_}
 use mathlib.Core.Bool.{true}
 use mathlib.Core.List.{List}

@@ -29,7 +29,7 @@ abbrev μ-loop : tie.MeasureT-loop
 -- a step that has an angle
 counted : (cosines : List Float) (i k : ℕ) → all finite cosines ≡ true → i < length cosines →
     k ≡ step (held (at cosines i)) → k ≤ 2 ^ 24
-counted cosines i k h l e = rw e (step-held (at cosines i) (all-at finite cosines (subst T (sym h) tt) i nan l) .1)
+counted cosines i k h l e = rw e (step-held (at cosines i) (all-at finite cosines (subst T (sym h) tt) i nan l) .inside)
 
 found : (x r : Float) (k : ℕ) → k ≡ step (held x) → r ≡ angle k → r ≡ angleOf x
 found x r k e f = f ∙ ap angle e
