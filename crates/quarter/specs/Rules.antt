@@ -1,4 +1,5 @@
--- The three rules of the quarter cosine, at every entry from 0 to 4,096; proofs/Fall, proofs/Doubling and proofs/Neighbour prove them.
+-- The three rules of the quarter cosine: the fall from entry 0 to 2,048, the doubling up to 2,048, the neighbours of 1 to 4,095.
+-- proofs/Fall, proofs/Doubling and proofs/Neighbour prove them.
 -- Added by design. Document 01, C3. Assumes nothing.
 use mathlib.Core.Path.{_≡_}
 use mathlib.Core.Bool.{Bool}
