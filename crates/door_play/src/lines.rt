@@ -1,7 +1,7 @@
 // The doors of the line frequencies.
 use crate::buffers;
 
-pub fn resting_set() -> bool {
+pub fn rest() -> bool {
     let mut set = buffers::marked();
     let status = c_api::g7231_resting_set(&mut set);
     let want = spec_lsp::resting::resting_set();

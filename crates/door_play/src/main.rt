@@ -32,7 +32,7 @@ fn door(tally: Tally, name: &[u8], holds: bool) -> Tally {
 }
 
 fn line_doors(tally: Tally) -> Tally {
-    let t = door(tally, b"resting_set", lines::resting_set());
+    let t = door(tally, b"resting_set", lines::rest());
     let t = door(t, b"lsp_cosines_to_freq", lines::cosines_to_freq());
     let t = door(t, b"lsp_freq_to_cosines", lines::freq_to_cosines());
     let t = door(t, b"quantise_lsp_freq", lines::quantise());
