@@ -51,8 +51,11 @@ exact a c C A h = go (a / c) h (div-mul-le-self a c)
     go (suc j) k l =
         let e : (j + 1) * c ≡ suc j * c = ap (λ (x : ℕ). x * c) (add-one j) in
         let f : suc j * c ≡ j * c + c = sym e ∙ one-more j c in
-        let g : suc j - 1 ≡ j = omega arith in
-        (omega arith, g ∙ sym (div-eq-of-lt-le c (less (j * c) (suc j * c) f l) (subst (λ (y : ℕ). a - 1 < y) (sym e) (last (suc j * c) k))))
+        let g : suc j - 1 ≡ j = omega arith in (
+          omega arith,
+          g ∙ sym (div-eq-of-lt-le c (less (j * c) (suc j * c) f l)
+              (subst (λ (y : ℕ). a - 1 < y) (sym e) (last (suc j * c) k))),
+        )
 
 -- ---- what the code compares
 -- −n ≤ −a / c, as the test says
@@ -62,13 +65,17 @@ module _ (n a c : ℕ) (y : Float) (C : 0 < c) (h : n ≤ 2 ^ 53) (v : HasValue 
   whole = neg-value (round binary64 false n 1) false n 1 (round-whole binary64 false n h)
 
   test-exact : le (neg (ofInt binary64 (pos n))) y ≡ true → a ≤ n * c
-  test-exact t = subst (λ (x : ℕ). x ≤ n * c) (mul-one a) (values-le (neg (ofInt binary64 (pos n))) y true n 1 true a c (lit< tt) C whole v (subst T (sym t) tt))
+  test-exact t =
+      subst (λ (x : ℕ). x ≤ n * c) (mul-one a)
+      (values-le (neg (ofInt binary64 (pos n))) y true n 1 true a c (lit< tt) C whole v (subst T (sym t) tt))
 
   test-short : le (neg (ofInt binary64 (pos n))) y ≡ false → n * c < a
   test-short t = go (leb a (n * c)) (leb→le a (n * c)) (nleb→lt a (n * c))
     where
       go : (b : Bool) → (T b → a ≤ n * c) → (T (not b) → n * c < a) → n * c < a
-      go true p q = absurd (subst T t (le-values (neg (ofInt binary64 (pos n))) y true n 1 true a c (lit< tt) C whole v (subst (λ (x : ℕ). x ≤ n * c) (sym (mul-one a)) (p tt))))
+      go true p q =
+          absurd (subst T t (le-values (neg (ofInt binary64 (pos n))) y true n 1 true a c (lit< tt) C whole v
+          (subst (λ (x : ℕ). x ≤ n * c) (sym (mul-one a)) (p tt))))
       go false p q = q tt
 
 -- ---- an x below 0
@@ -98,7 +105,8 @@ module _ (s : Bool) (m : ℕ) (e : ℤ) (f : T (fits binary32 (fin s m e))) (h :
   few : m * up e * 2 ^ 46 / down e ≤ 2 ^ 53
   few = le-trans (le-of-eq (sym (floor-whole (2 ^ 46) s m e))) (le-trans (floor-le (2 ^ 46) 0 (fin s m e) h) (lit≤ tt))
 
-pub exactly : (x : Float) (n : ℕ) → T (fits binary32 x) → exceeds (power 0) x ≡ false → lt x zero-double ≡ true → n ≡ floor (2 ^ 46) 1 x → le (neg (ofInt binary64 (pos n))) (up46 x) ≡ true → (1 ≤ n) × (n - 1 ≡ wholeBelow 46 x)
+pub exactly : (x : Float) (n : ℕ) → T (fits binary32 x) → exceeds (power 0) x ≡ false → lt x zero-double ≡ true →
+    n ≡ floor (2 ^ 46) 1 x → le (neg (ofInt binary64 (pos n))) (up46 x) ≡ true → (1 ≤ n) × (n - 1 ≡ wholeBelow 46 x)
 unfolding wholeBelow
 exactly nan n f h k e t = absurd (no-nan k)
 exactly (inf s) n f h k e t = absurd (no-infinity 0 s h)
@@ -110,7 +118,8 @@ exactly (fin s m g) n f h k e t =
     let l = test-exact q a (down g) (up46 (fin s m g)) (down-pos g) (few s m g f h k) (product s m g f h k) tested in
     subst (λ (z : ℕ). (1 ≤ z) × (z - 1 ≡ (a - 1) / down g)) (sym w) (exact a (down g) (down-pos g) (some s m g f h k) l)
 
-pub shortly : (x : Float) (n : ℕ) → T (fits binary32 x) → exceeds (power 0) x ≡ false → lt x zero-double ≡ true → n ≡ floor (2 ^ 46) 1 x → le (neg (ofInt binary64 (pos n))) (up46 x) ≡ false → n ≡ wholeBelow 46 x
+pub shortly : (x : Float) (n : ℕ) → T (fits binary32 x) → exceeds (power 0) x ≡ false → lt x zero-double ≡ true →
+    n ≡ floor (2 ^ 46) 1 x → le (neg (ofInt binary64 (pos n))) (up46 x) ≡ false → n ≡ wholeBelow 46 x
 unfolding wholeBelow
 shortly nan n f h k e t = absurd (no-nan k)
 shortly (inf s) n f h k e t = absurd (no-infinity 0 s h)
@@ -119,4 +128,5 @@ shortly (fin s m g) n f h k e t =
     let q = a / down g in
     let w : n ≡ q = e ∙ floor-whole (2 ^ 46) s m g in
     let tested = ap (λ (z : ℕ). le (neg (ofInt binary64 (pos z))) (up46 (fin s m g))) (sym w) ∙ t in
-    w ∙ short a (down g) (down-pos g) (test-short q a (down g) (up46 (fin s m g)) (down-pos g) (few s m g f h k) (product s m g f h k) tested)
+    w ∙ short a (down g) (down-pos g)
+    (test-short q a (down g) (up46 (fin s m g)) (down-pos g) (few s m g f h k) (product s m g f h k) tested)

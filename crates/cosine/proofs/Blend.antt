@@ -1,4 +1,5 @@
--- The blend of two entries in natural numbers: `low` up to the quarter circle, its negative mirrored above. It falls strictly. Assumes nothing.
+-- The blend of two entries in natural numbers: `low` up to the quarter circle, its negative mirrored above. It falls strictly. Assumes
+-- nothing.
 use mathlib.Core.Path.{_≡_, refl, sym, ap, _∙_}
 use mathlib.Core.Logic.{inl, inr}
 use Prim.Native.Nat.{ℕ, zero, suc, _+_, _-_, _*_, _/_, _%_, _^_, _≤_, _<_, zero-le}
@@ -56,12 +57,14 @@ high-at j s r h =
     let f : suc (4095 - j) ≡ 4096 - j = omega arith in
     let g : 4096 - (4096 - s) ≡ s = omega arith in
     rw (f, g, e, high-entry (suc j) (omega arith), high-entry j (omega arith))
-    (minus (quarter (suc j)) s (quarter j) (4096 - s) ∙ ap (λ (n : ℕ). negℤ (pos n)) (add-comm (quarter (suc j) * s) (quarter j * (4096 - s))))
+    (minus (quarter (suc j)) s (quarter j) (4096 - s) ∙ ap (λ (n : ℕ). negℤ (pos n))
+    (add-comm (quarter (suc j) * s) (quarter j * (4096 - s))))
 
 -- a rest of 0 counts as a rest of 4096 one place lower
 carry : (i : ℕ) → at (suc i) 0 ≡ at i 4096
 unfolding at
-carry i = rw (*ℤ-zero (entry (suc (suc i))), *ℤ-zero (entry i)) (+ℤ-idr (entry (suc i) *ℤ pos 4096) ∙ sym (zero-plus (entry (suc i) *ℤ pos 4096)))
+carry i =
+    rw (*ℤ-zero (entry (suc (suc i))), *ℤ-zero (entry i)) (+ℤ-idr (entry (suc i) *ℤ pos 4096) ∙ sym (zero-plus (entry (suc i) *ℤ pos 4096)))
   where
     zero-plus : (z : ℤ) → pos 0 +ℤ z ≡ z
     zero-plus z = lib.IntN.+ℤ-idl z
@@ -102,7 +105,9 @@ at-falls i s h r = within (quarter i) (quarter (suc i)) i s (fall i h) r
 
 at-carry : (i : ℕ) → at-low (suc i) 0 ≡ at-low i 4096
 unfolding at-low
-at-carry i = rw (mul-zero (quarter (suc (suc i))), mul-zero (quarter i)) (add-zero (quarter (suc i) * 4096) ∙ sym (zero-plus (quarter (suc i) * 4096)))
+at-carry i =
+    rw (mul-zero (quarter (suc (suc i))), mul-zero (quarter i))
+    (add-zero (quarter (suc i) * 4096) ∙ sym (zero-plus (quarter (suc i) * 4096)))
   where
     zero-plus : (n : ℕ) → 0 + n ≡ n
     zero-plus n = omega arith

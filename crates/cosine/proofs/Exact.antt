@@ -1,4 +1,5 @@
--- The unnarrowed cosine is exact: a whole number of at most 2^42 over 2^42. And what the code computes, a quotient of doubles, is that value. Assumes nothing.
+-- The unnarrowed cosine is exact: a whole number of at most 2^42 over 2^42. And what the code computes, a quotient of doubles, is that
+-- value. Assumes nothing.
 use mathlib.Core.Path.{_≡_, refl, sym, ap, _∙_, subst}
 use mathlib.Core.Bool.{Bool, true, false, cond}
 use Prim.Native.Nat.{ℕ, zero, suc, _+_, _-_, _*_, _%_, _^_, _≤_, _<_}
@@ -24,10 +25,12 @@ ratio-exact s n h =
     (ap (λ (x : ℕ). n * x) (pow-add 2 1032 42) ∙ sym (mul-assoc n (2 ^ 1032) (2 ^ 42)))
 
 -- what the code divides
-pub ratio-code : (n : ℕ) → n ≤ 2 ^ 42 → div binary64 (ofInt binary64 (pos n)) (ofBits binary64 0x4290000000000000) ≡ round binary64 false n (2 ^ 42)
+pub ratio-code : (n : ℕ) → n ≤ 2 ^ 42 →
+    div binary64 (ofInt binary64 (pos n)) (ofBits binary64 0x4290000000000000) ≡ round binary64 false n (2 ^ 42)
 unfolding ofInt ofBits
 ratio-code n h =
-    div-value binary64 (round binary64 false n 1) (ofBits binary64 0x4290000000000000) false n 1 false (2 ^ 42) 1 (lit< tt) (lit< tt) (lit< tt)
+    div-value binary64 (round binary64 false n 1) (ofBits binary64 0x4290000000000000) false n 1 false (2 ^ 42) 1 (lit< tt) (lit< tt)
+    (lit< tt)
     (round-whole binary64 false n (le-trans h (lit≤ tt))) (refl, refl)
     ∙ ap (λ (x : ℕ). round binary64 false x (2 ^ 42)) (mul-one n)
 
@@ -51,7 +54,8 @@ pub folded-le : (k : ℕ) → folded k ≤ 2 ^ 24
 unfolding folded
 folded-le k = go (leb (k % 2 ^ 25) (2 ^ 24)) (leb→le (k % 2 ^ 25) (2 ^ 24)) (nleb→lt (k % 2 ^ 25) (2 ^ 24))
   where
-    go : (b : Bool) → (T b → k % 2 ^ 25 ≤ 2 ^ 24) → (T (mathlib.Core.Bool.not b) → 2 ^ 24 < k % 2 ^ 25) → cond b (k % 2 ^ 25) (2 ^ 25 - k % 2 ^ 25) ≤ 2 ^ 24
+    go : (b : Bool) → (T b → k % 2 ^ 25 ≤ 2 ^ 24) → (T (mathlib.Core.Bool.not b) → 2 ^ 24 < k % 2 ^ 25) →
+        cond b (k % 2 ^ 25) (2 ^ 25 - k % 2 ^ 25) ≤ 2 ^ 24
     go true f g = f tt
     go false f g = omega (arith, g tt)
 
@@ -66,7 +70,9 @@ cosine-high-code k h = cosine-high k h ∙ round-neg binary64 false (low (2 ^ 24
 
 -- ---- its exact value
 pub value-low : (k : ℕ) → folded k ≤ 2 ^ 23 → HasValue (cosine k) false (low (folded k)) (2 ^ 42)
-value-low k h = subst (λ (x : Float). HasValue x false (low (folded k)) (2 ^ 42)) (sym (cosine-low k h)) (ratio-exact false (low (folded k)) (low-le (folded k) h))
+value-low k h =
+    subst (λ (x : Float). HasValue x false (low (folded k)) (2 ^ 42)) (sym (cosine-low k h))
+    (ratio-exact false (low (folded k)) (low-le (folded k) h))
 
 pub value-high : (k : ℕ) → 2 ^ 23 < folded k → HasValue (cosine k) true (low (2 ^ 24 - folded k)) (2 ^ 42)
 value-high k h =

@@ -1,4 +1,5 @@
--- The invariant of a loop that halves: lo and the next half of a range of 2^d, in which the search ends as from the whole one. Assumes nothing.
+-- The invariant of a loop that halves: lo and the next half of a range of 2^d, in which the search ends as from the whole one. Assumes
+-- nothing.
 use mathlib.Core.Path.{_≡_, refl, sym, ap, _∙_, subst}
 use mathlib.Core.Bool.{Bool, true, false, cond}
 use Prim.Native.Nat.{ℕ, zero, suc, _+_, _*_, _/_, _^_, _≤_, _<_}
@@ -26,7 +27,8 @@ half-of d = ap (λ (x : ℕ). x / 2) (two-pow-succ d) ∙ even (2 ^ d)
     even x = omega arith
 
 -- one turn, by what the test says at the middle
-pub halving-more : (n : ℕ) (test : ℕ → Bool) (lo half : ℕ) (b : Bool) → 0 < half → test (lo + half) ≡ b → Halving n test lo half → Halving n test (cond b lo (lo + half)) (half / 2)
+pub halving-more : (n : ℕ) (test : ℕ → Bool) (lo half : ℕ) (b : Bool) → 0 < half → test (lo + half) ≡ b → Halving n test lo half →
+    Halving n test (cond b lo (lo + half)) (half / 2)
 unfolding above
 halving-more n test lo half b h e r = go (r .digits) (r .width) (r .room) (r .rest)
   where
@@ -40,7 +42,8 @@ halving-more n test lo half b h e r = go (r .digits) (r .width) (r .room) (r .re
     either true d l = split lo (2 ^ d) (2 ^ suc d) (two-pow-succ d) l .0
     either false d l = split lo (2 ^ d) (2 ^ suc d) (two-pow-succ d) l .1
 
-    go : (d : ℕ) → half ≡ 2 ^ d / 2 → lo + 2 ^ d ≤ 2 ^ n → above d test lo ≡ above n test 0 → Halving n test (cond b lo (lo + half)) (half / 2)
+    go : (d : ℕ) → half ≡ 2 ^ d / 2 → lo + 2 ^ d ≤ 2 ^ n → above d test lo ≡ above n test 0 →
+        Halving n test (cond b lo (lo + half)) (half / 2)
     go zero w l q = absurd (none w)
     go (suc d) w l q =
         let v : half ≡ 2 ^ d = w ∙ half-of d in

@@ -32,13 +32,17 @@ far k g h =
     subst (λ (n : ℕ). HasValue (cosine k) true (low (2 ^ 24 - n)) (2 ^ 42)) e (value-high k (subst (λ (n : ℕ). 2 ^ 23 < n) (sym e) g))
 
 pub cosine-falls : (k j : ℕ) → k ≤ j → j ≤ 2 ^ 24 → T (le (cosine j) (cosine k))
-cosine-falls k j h l = go (leb j (2 ^ 23)) (leb k (2 ^ 23)) (leb→le j (2 ^ 23)) (nleb→lt j (2 ^ 23)) (leb→le k (2 ^ 23)) (nleb→lt k (2 ^ 23))
+cosine-falls k j h l =
+    go (leb j (2 ^ 23)) (leb k (2 ^ 23)) (leb→le j (2 ^ 23)) (nleb→lt j (2 ^ 23)) (leb→le k (2 ^ 23)) (nleb→lt k (2 ^ 23))
   where
-    by : (s : Bool) (a : ℕ) (t : Bool) (b : ℕ) → HasValue (cosine j) s a (2 ^ 42) → HasValue (cosine k) t b (2 ^ 42) → Under s (a * 2 ^ 42) t (b * 2 ^ 42) → T (le (cosine j) (cosine k))
+    by : (s : Bool) (a : ℕ) (t : Bool) (b : ℕ) → HasValue (cosine j) s a (2 ^ 42) → HasValue (cosine k) t b (2 ^ 42) →
+        Under s (a * 2 ^ 42) t (b * 2 ^ 42) → T (le (cosine j) (cosine k))
     by s a t b p q u = le-values (cosine j) (cosine k) s a (2 ^ 42) t b (2 ^ 42) (pow-pos 42) (pow-pos 42) p q u
 
-    go : (x y : Bool) → (T x → j ≤ 2 ^ 23) → (T (not x) → 2 ^ 23 < j) → (T y → k ≤ 2 ^ 23) → (T (not y) → 2 ^ 23 < k) → T (le (cosine j) (cosine k))
-    go true true p q r s = by false (low j) false (low k) (near j (p tt)) (near k (r tt)) (mul-le-mul-right (2 ^ 42) (low-monotone k j h (p tt)))
+    go : (x y : Bool) → (T x → j ≤ 2 ^ 23) → (T (not x) → 2 ^ 23 < j) → (T y → k ≤ 2 ^ 23) → (T (not y) → 2 ^ 23 < k) →
+        T (le (cosine j) (cosine k))
+    go true true p q r s =
+        by false (low j) false (low k) (near j (p tt)) (near k (r tt)) (mul-le-mul-right (2 ^ 42) (low-monotone k j h (p tt)))
     go true false p q r s = absurd (clash (p tt) (s tt))
       where
         clash : j ≤ 2 ^ 23 → 2 ^ 23 < k → ⊥

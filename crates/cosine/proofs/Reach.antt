@@ -75,7 +75,8 @@ module _ (m : ℕ) (e : ℤ) (h : 0 < m * up e) where
 
   high-reached : (k : ℕ) → 2 ^ 23 < k → k ≤ 2 ^ 24 → (m * up e * 2 ^ 42 - 1) / down e < low (2 ^ 24 - k) → T (reached (fin true m e) k)
   high-reached k g l p =
-      le-values (cosine k) (fin true m e) true (low (2 ^ 24 - k)) (2 ^ 42) true (m * up e) (down e) (pow-pos 42) (down-pos e) (far k g l) (refl, refl)
+      le-values (cosine k) (fin true m e) true (low (2 ^ 24 - k)) (2 ^ 42) true (m * up e) (down e) (pow-pos 42) (down-pos e)
+      (far k g l) (refl, refl)
       (over (m * up e * 2 ^ 42) (low (2 ^ 24 - k) * down e) (div-lt-iff-lt-mul (down-pos e) .0 p))
     where
       over : (x v : ℕ) → x - 1 < v → x ≤ v
@@ -85,7 +86,8 @@ module _ (m : ℕ) (e : ℤ) (h : 0 < m * up e) where
   high-back k g l t =
       div-lt-iff-lt-mul (down-pos e) .1
       (under (m * up e * 2 ^ 42) (low (2 ^ 24 - k) * down e) some
-      (values-le (cosine k) (fin true m e) true (low (2 ^ 24 - k)) (2 ^ 42) true (m * up e) (down e) (pow-pos 42) (down-pos e) (far k g l) (refl, refl) t))
+      (values-le (cosine k) (fin true m e) true (low (2 ^ 24 - k)) (2 ^ 42) true (m * up e) (down e) (pow-pos 42) (down-pos e)
+      (far k g l) (refl, refl) t))
     where
       under : (x v : ℕ) → 0 < x → x ≤ v → x - 1 < v
       under x v p q = omega arith
@@ -94,7 +96,8 @@ module _ (m : ℕ) (e : ℤ) (h : 0 < m * up e) where
   none-low : (k : ℕ) → k ≤ 2 ^ 23 → T (reached (fin true m e) k) → ⊥
   none-low k l t =
       contra (low k * down e) (m * up e * 2 ^ 42) some
-      (values-le (cosine k) (fin true m e) false (low k) (2 ^ 42) true (m * up e) (down e) (pow-pos 42) (down-pos e) (near k l) (refl, refl) t)
+      (values-le (cosine k) (fin true m e) false (low k) (2 ^ 42) true (m * up e) (down e) (pow-pos 42) (down-pos e) (near k l)
+      (refl, refl) t)
     where
       contra : (v x : ℕ) → 0 < x → v + x ≡ 0 → ⊥
       contra v x p q = omega arith
@@ -107,17 +110,21 @@ module _ (m : ℕ) (e : ℤ) (h : 0 < m * up e) where
       less x d p q = omega arith
 
   high-least : m * up e ≤ 2 ^ 0 * down e → (r : ℕ) → LowStep ((m * up e * 2 ^ 42 - 1) / down e) r → StepOf (fin true m e) (2 ^ 24 + 1 - r)
-  high-least b zero l = absurd (lt-irrefl (2 ^ 42) (lt-of-le-of-lt (subst (λ (v : ℕ). v ≤ (m * up e * 2 ^ 42 - 1) / down e) low-first (l .passes)) (small b)))
+  high-least b zero l =
+      absurd (lt-irrefl (2 ^ 42) (lt-of-le-of-lt (subst (λ (v : ℕ). v ≤ (m * up e * 2 ^ 42 - 1) / down e) low-first (l .passes)) (small b)))
   high-least b (suc r) l = record {
     inside = omega arith;
-    reaches = high-reached (2 ^ 24 + 1 - suc r) (omega (arith, l .inside)) (omega arith) (subst (λ (j : ℕ). (m * up e * 2 ^ 42 - 1) / down e < low j) mirrored (l .before r (lt-suc-self r)));
+    reaches =
+        high-reached (2 ^ 24 + 1 - suc r) (omega (arith, l .inside)) (omega arith)
+        (subst (λ (j : ℕ). (m * up e * 2 ^ 42 - 1) / down e < low j) mirrored (l .before r (lt-suc-self r)));
     least = λ k g t. either k g t (leb k (2 ^ 23)) (leb→le k (2 ^ 23)) (nleb→lt k (2 ^ 23));
   }
     where
       mirrored : r ≡ 2 ^ 24 - (2 ^ 24 + 1 - suc r)
       mirrored = omega (arith, l .inside)
 
-      either : (k : ℕ) → k < 2 ^ 24 + 1 - suc r → T (reached (fin true m e) k) → (c : Bool) → (T c → k ≤ 2 ^ 23) → (T (not c) → 2 ^ 23 < k) → ⊥
+      either : (k : ℕ) → k < 2 ^ 24 + 1 - suc r → T (reached (fin true m e) k) → (c : Bool) → (T c → k ≤ 2 ^ 23) →
+          (T (not c) → 2 ^ 23 < k) → ⊥
       either k g t true p q = none-low k (p tt) t
       either k g t false p q =
           lt-irrefl (low (2 ^ 24 - k))
@@ -176,7 +183,9 @@ none-above test f (suc d) lo =
 
 nan-last : step nan ≡ 2 ^ 24
 unfolding step
-nan-last = ap (λ (b : Bool). cond b 0 (above 24 (reached nan) 0)) (nothing-le (cosine 0)) ∙ none-above (reached nan) (λ k. nothing-le (cosine k)) 24 0
+nan-last =
+    ap (λ (b : Bool). cond b 0 (above 24 (reached nan) 0)) (nothing-le (cosine 0)) ∙ none-above (reached nan)
+    (λ k. nothing-le (cosine k)) 24 0
 
 pub step-nan : (x : Float) → ne x x ≡ true → 2 ^ 24 ≡ step x
 step-nan x h = sym (ap step (differs-from-itself x (subst T (sym h) tt)) ∙ nan-last)
@@ -186,7 +195,8 @@ pub held-within : (c : Float) → exceeds (power 0) (held c) ≡ false
 unfolding held single lib.Ieee.round neg lt
 held-within c = go (lt (single 1 1) c) (lt c (neg (single 1 1))) refl refl
   where
-    go : (a b : Bool) → lt (power 0) c ≡ a → lt c (neg (power 0)) ≡ b → exceeds (power 0) (cond a (single 1 1) (cond b (neg (single 1 1)) c)) ≡ false
+    go : (a b : Bool) → lt (power 0) c ≡ a → lt c (neg (power 0)) ≡ b →
+        exceeds (power 0) (cond a (single 1 1) (cond b (neg (single 1 1)) c)) ≡ false
     go true b p q = refl
     go false true p q = refl
     go false false p q = ap (λ (z : Bool). z || lt c (neg (power 0))) p ∙ q

@@ -75,8 +75,11 @@ count a b n h k l =
     let few : q < 4096 = div-lt-iff-lt-mul d .1 less in
     record {
       few = few;
-      enough = reach (a * (4096 - suc q) + b * suc q) ((a - b) * suc q) (falls a b (suc q) (omega arith) (omega arith)) (next (a * 4096 - n - 1) (a - b) d);
-      before = miss (a * (4096 - q) + b * q) ((a - b) * q) (falls a b q (omega arith) (omega arith)) (mul-div-le (a * 4096 - n - 1) (a - b));
+      enough =
+          reach (a * (4096 - suc q) + b * suc q) ((a - b) * suc q) (falls a b (suc q) (omega arith) (omega arith))
+          (next (a * 4096 - n - 1) (a - b) d);
+      before =
+          miss (a * (4096 - q) + b * q) ((a - b) * q) (falls a b q (omega arith) (omega arith)) (mul-div-le (a * 4096 - n - 1) (a - b));
     }
   where
     less : a * 4096 - n - 1 < 4096 * (a - b)
@@ -97,7 +100,9 @@ pub found : (n i : ℕ) → Segment n i → (q : ℕ) → Count (quarter i) (qua
 found n i s q c = record {
   inside = omega (arith, s .room, c .few);
   passes = subst (λ (v : ℕ). v ≤ n) (sym (low-between i (suc q) (c .few))) (c .enough);
-  before = λ k l. lt-of-lt-of-le (subst (λ (v : ℕ). n < v) (sym (low-between i q (omega (arith, c .few)))) (c .before)) (low-monotone k (i * 4096 + q) (omega arith) (omega (arith, s .room, c .few)));
+  before =
+      λ k l. lt-of-lt-of-le (subst (λ (v : ℕ). n < v) (sym (low-between i q (omega (arith, c .few)))) (c .before))
+      (low-monotone k (i * 4096 + q) (omega arith) (omega (arith, s .room, c .few)));
 }
 
 -- nothing is above 2^42

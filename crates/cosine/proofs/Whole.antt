@@ -24,7 +24,8 @@ use Rattle.cosine.specs.Angle.{stepOfAngle}
 -- ---- what fits has few digits and no small exponent
 few : (f : Format) (s : Bool) (m : ℕ) (e : ℤ) → T (fits f (fin s m e)) → (m < 2 ^ prec f) × (down e ≤ 2 ^ low f)
 unfolding fits
-few f s zero e h = (pow-pos (prec f), le-trans (unit (up e) (down e) (lib.Ieee.Fits.up-pos e) (lib.Dec.eqb→eq (up e * down e) 1 h)) (pow-pos (low f)))
+few f s zero e h =
+    (pow-pos (prec f), le-trans (unit (up e) (down e) (lib.Ieee.Fits.up-pos e) (lib.Dec.eqb→eq (up e * down e) 1 h)) (pow-pos (low f)))
   where
     unit : (u d : ℕ) → 0 < u → u * d ≡ 1 → d ≤ 1
     unit u d U p = le-trans (le-of-eq (sym (one-mul d))) (le-trans (mul-le-mul-right d U) (le-of-eq p))
@@ -38,14 +39,20 @@ few f s (suc m) e h =
     )
 
 -- ---- a double times 2^46 is exact up to 2^16
-pub scale : (s : Bool) (m : ℕ) (e : ℤ) → T (fits binary64 (fin s m e)) → m * up e ≤ 2 ^ 16 * down e → HasValue (mul binary64 (fin s m e) (power 46)) s (m * up e * 2 ^ 46) (down e)
+pub scale : (s : Bool) (m : ℕ) (e : ℤ) → T (fits binary64 (fin s m e)) → m * up e ≤ 2 ^ 16 * down e →
+    HasValue (mul binary64 (fin s m e) (power 46)) s (m * up e * 2 ^ 46) (down e)
 scale s m e h l =
     let k = few binary64 s m e h in
-    subst (λ (x : Float). HasValue x s (m * up e * 2 ^ 46) (down e)) (sym (product s)) (scaled-exact binary64 s m e 46 (k .0) (k .1) (room (m * up e) (down e) (down-pos e) l))
+    subst (λ (x : Float). HasValue x s (m * up e * 2 ^ 46) (down e)) (sym (product s))
+    (scaled-exact binary64 s m e 46 (k .0) (k .1) (room (m * up e) (down e) (down-pos e) l))
   where
     product : (s : Bool) → mul binary64 (fin s m e) (power 46) ≡ round binary64 s (m * up e * 2 ^ 46) (down e)
-    product true = mul-value binary64 (fin true m e) (power 46) true (m * up e) (down e) false (2 ^ 46) 1 (down-pos e) (lit< tt) (refl, refl) (refl, refl) ∙ ap (λ (n : ℕ). round binary64 true (m * up e * 2 ^ 46) n) (mul-one (down e))
-    product false = mul-value binary64 (fin false m e) (power 46) false (m * up e) (down e) false (2 ^ 46) 1 (down-pos e) (lit< tt) (refl, refl) (refl, refl) ∙ ap (λ (n : ℕ). round binary64 false (m * up e * 2 ^ 46) n) (mul-one (down e))
+    product true =
+        mul-value binary64 (fin true m e) (power 46) true (m * up e) (down e) false (2 ^ 46) 1 (down-pos e) (lit< tt) (refl, refl)
+        (refl, refl) ∙ ap (λ (n : ℕ). round binary64 true (m * up e * 2 ^ 46) n) (mul-one (down e))
+    product false =
+        mul-value binary64 (fin false m e) (power 46) false (m * up e) (down e) false (2 ^ 46) 1 (down-pos e) (lit< tt) (refl, refl)
+        (refl, refl) ∙ ap (λ (n : ℕ). round binary64 false (m * up e * 2 ^ 46) n) (mul-one (down e))
 
     room : (n d : ℕ) → 0 < d → n ≤ 2 ^ 16 * d → n * 2 ^ 46 < 2 ^ 1024 * d
     room n d D p =
@@ -54,7 +61,9 @@ scale s m e h l =
 
 -- below 2^62 a whole part
 small : (n d : ℕ) → 0 < d → n ≤ 2 ^ 16 * d → n * 2 ^ 46 < 2 ^ 64 * d
-small n d D p = lt-of-le-of-lt (le-trans (mul-le-mul-right (2 ^ 46) p) (le-of-eq (mul-right-comm (2 ^ 16) d (2 ^ 46)))) (mul-lt-mul-of-pos-right (lit< tt) D)
+small n d D p =
+    lt-of-le-of-lt (le-trans (mul-le-mul-right (2 ^ 46) p) (le-of-eq (mul-right-comm (2 ^ 16) d (2 ^ 46))))
+    (mul-lt-mul-of-pos-right (lit< tt) D)
 
 pub record Cut (y : Float) (n : ℕ) : Type 0 where
   pub low : T (lt (fin true 1 (pos 0)) y)
@@ -67,7 +76,8 @@ cut y s m e v l = record {
   low = above-minus-one y (m * up e * 2 ^ 46) (down e) v;
   high = below-word y (m * up e * 2 ^ 46) (down e) (down-pos e) v (small (m * up e) (down e) (down-pos e) l);
   is =
-      whole-part 64 y (m * up e * 2 ^ 46) (down e) (down-pos e) v (div-lt-iff-lt-mul (down-pos e) .1 (small (m * up e) (down e) (down-pos e) l))
+      whole-part 64 y (m * up e * 2 ^ 46) (down e) (down-pos e) v
+      (div-lt-iff-lt-mul (down-pos e) .1 (small (m * up e) (down e) (down-pos e) l))
       ∙ sym (floor-whole (2 ^ 46) s m e);
 }
 
@@ -85,7 +95,8 @@ unfolding lt
 below-zero nan s a c v h = absurd v
 below-zero (inf t) s a c v h = absurd v
 below-zero (fin true m e) s a c v h = sym (v .0)
-below-zero (fin false m e) s a c v h = absurd (none (m * up e * 1) (0 * 1 * down e) (zero-mul (down e)) (borrow.Author.Tests.ltb-true (m * up e * 1) (0 * 1 * down e) h))
+below-zero (fin false m e) s a c v h =
+    absurd (none (m * up e * 1) (0 * 1 * down e) (zero-mul (down e)) (borrow.Author.Tests.ltb-true (m * up e * 1) (0 * 1 * down e) h))
   where
     none : (n k : ℕ) → k ≡ 0 → n < k → ⊥
     none n k z l = omega arith
@@ -136,28 +147,34 @@ nan-product : up46 nan ≡ nan
 unfolding mul
 nan-product = refl
 
-pub under : (x : Float) → T (fits binary32 x) → exceeds (power 16) x ≡ false → lt (up46 x) zero-double ≡ true → Cut (neg (up46 x)) (floor (2 ^ 46) 1 x)
+pub under : (x : Float) → T (fits binary32 x) → exceeds (power 16) x ≡ false → lt (up46 x) zero-double ≡ true →
+    Cut (neg (up46 x)) (floor (2 ^ 46) 1 x)
 under nan f h k = absurd (not-nan (ap (λ (y : Float). lt y zero-double) (sym nan-product) ∙ k))
 under (inf s) f h k = absurd (no-infinity 16 s h)
 under (fin s m e) f h k =
     let l = magnitude 16 s m e h in
     let v = scale s m e (lib.Ieee.Fits.fits-widens (fin s m e) f) l in
     let p : not s ≡ false = ap not (below-zero (up46 (fin s m e)) s (m * up e * 2 ^ 46) (down e) v k) in
-    cut (neg (up46 (fin s m e))) s m e (subst (λ (b : Bool). HasValue (neg (up46 (fin s m e))) b (m * up e * 2 ^ 46) (down e)) p (neg-value (up46 (fin s m e)) s (m * up e * 2 ^ 46) (down e) v)) l
+    cut (neg (up46 (fin s m e))) s m e
+    (subst (λ (b : Bool). HasValue (neg (up46 (fin s m e))) b (m * up e * 2 ^ 46) (down e)) p
+    (neg-value (up46 (fin s m e)) s (m * up e * 2 ^ 46) (down e) v)) l
 
 nan-above : lt zero-double nan ≡ true → ⊥
 unfolding lt
 nan-above h = mathlib.Core.Bool.false≢true h
 
-pub over : (x : Float) → T (fits binary32 x) → exceeds (power 16) x ≡ false → lt zero-double (up46 x) ≡ true → Cut (up46 x) (floor (2 ^ 46) 1 x)
+pub over : (x : Float) → T (fits binary32 x) → exceeds (power 16) x ≡ false → lt zero-double (up46 x) ≡ true →
+    Cut (up46 x) (floor (2 ^ 46) 1 x)
 over nan f h k = absurd (nan-above (ap (λ (y : Float). lt zero-double y) (sym nan-product) ∙ k))
 over (inf s) f h k = absurd (no-infinity 16 s h)
 over (fin s m e) f h k =
     let l = magnitude 16 s m e h in
     let v = scale s m e (lib.Ieee.Fits.fits-widens (fin s m e) f) l in
-    cut (up46 (fin s m e)) s m e (subst (λ (b : Bool). HasValue (up46 (fin s m e)) b (m * up e * 2 ^ 46) (down e)) (above-zero (up46 (fin s m e)) s (m * up e * 2 ^ 46) (down e) v k) v) l
+    cut (up46 (fin s m e)) s m e (subst (λ (b : Bool). HasValue (up46 (fin s m e)) b (m * up e * 2 ^ 46) (down e))
+    (above-zero (up46 (fin s m e)) s (m * up e * 2 ^ 46) (down e) v k) v) l
 
-pub flat : (x : Float) → T (fits binary32 x) → exceeds (power 16) x ≡ false → lt (up46 x) zero-double ≡ false → lt zero-double (up46 x) ≡ false → 0 ≡ floor (2 ^ 46) 1 x
+pub flat : (x : Float) → T (fits binary32 x) → exceeds (power 16) x ≡ false → lt (up46 x) zero-double ≡ false →
+    lt zero-double (up46 x) ≡ false → 0 ≡ floor (2 ^ 46) 1 x
 unfolding floor
 flat nan f h j k = refl
 flat (inf s) f h j k = refl

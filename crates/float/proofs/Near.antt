@@ -86,38 +86,55 @@ near-of z s w c e p l r x = go s (units-of z s (r .g) (r .value)) x
     go false u x =
         let a : c * plus z ≡ c * r .g = ap (λ (y : ℕ). c * y) (u .0) in
         let b : c * less z ≡ 0 = ap (λ (y : ℕ). c * y) (u .1) ∙ mul-zero c in
-        record { good = record { fit = r .fit; fin? = value-finite z _ _ _ (r .value) }; over = omega (arith, r .over); under = omega (arith, r .under) }
+        record {
+          good = record { fit = r .fit; fin? = value-finite z _ _ _ (r .value) };
+          over = omega (arith, r .over);
+          under = omega (arith, r .under);
+        }
     go true u x =
         let a : c * less z ≡ c * r .g = ap (λ (y : ℕ). c * y) (u .1) in
         let b : c * plus z ≡ 0 = ap (λ (y : ℕ). c * y) (u .0) ∙ mul-zero c in
-        record { good = record { fit = r .fit; fin? = value-finite z _ _ _ (r .value) }; over = omega (arith, r .under); under = omega (arith, r .over) }
+        record {
+          good = record { fit = r .fit; fin? = value-finite z _ _ _ (r .value) };
+          over = omega (arith, r .under);
+          under = omega (arith, r .over);
+        }
 
 -- ---- a sum of two values in units, ±a and ±b, as the library has it: over a common denominator C
 module _ (A B C a b : ℕ) (P : 0 < C) (x : A * unit ≡ a * C) (y : B * unit ≡ b * C) where
   both : (A + B) * (1 * unit) ≡ (a + b) * C
-  both = ap (λ (u : ℕ). (A + B) * u) (one-mul unit) ∙ add-mul A B unit ∙ ap (λ (u : ℕ). u + B * unit) x ∙ ap (λ (u : ℕ). a * C + u) y ∙ sym (add-mul a b C)
+  both =
+      ap (λ (u : ℕ). (A + B) * u) (one-mul unit) ∙ add-mul A B unit ∙ ap (λ (u : ℕ). u + B * unit) x ∙ ap (λ (u : ℕ). a * C + u) y
+      ∙ sym (add-mul a b C)
 
   minus-left : (m n k : ℕ) → (m - n) * k ≡ m * k - n * k
-  minus-left m n k = mul-comm (m - n) k ∙ mul-sub k m n ∙ ap (λ (u : ℕ). u - k * n) (mul-comm k m) ∙ ap (λ (u : ℕ). m * k - u) (mul-comm k n)
+  minus-left m n k =
+      mul-comm (m - n) k ∙ mul-sub k m n ∙ ap (λ (u : ℕ). u - k * n) (mul-comm k m) ∙ ap (λ (u : ℕ). m * k - u) (mul-comm k n)
 
   apart : (A - B) * (1 * unit) ≡ (a - b) * C
-  apart = ap (λ (u : ℕ). (A - B) * u) (one-mul unit) ∙ minus-left A B unit ∙ ap (λ (u : ℕ). u - B * unit) x ∙ ap (λ (u : ℕ). a * C - u) y ∙ sym (minus-left a b C)
+  apart =
+      ap (λ (u : ℕ). (A - B) * u) (one-mul unit) ∙ minus-left A B unit ∙ ap (λ (u : ℕ). u - B * unit) x ∙ ap (λ (u : ℕ). a * C - u) y
+      ∙ sym (minus-left a b C)
 
   order : A ≤ B → a ≤ b
   order h = le-of-mul-le-mul-right (le-trans (le-of-eq (sym x)) (le-trans (mul-le-mul-right unit h) (le-of-eq y))) P
 
 -- the rounding of w units
-rounding : (s : Bool) (N C w k : ℕ) → 0 < C → k ≤ 252 → N * (1 * unit) ≡ w * C → w < 2 ^ (24 + k) → Rounding binary32 (round binary32 s N C) s w 1 (2 ^ k)
+rounding : (s : Bool) (N C w k : ℕ) → 0 < C → k ≤ 252 → N * (1 * unit) ≡ w * C → w < 2 ^ (24 + k) →
+    Rounding binary32 (round binary32 s N C) s w 1 (2 ^ k)
 rounding s N C w k P K e h =
-    subst (λ (z : Float). Rounding binary32 z s w 1 (2 ^ k)) (sym (round-same binary32 s N C w (1 * unit) P (mul-pos (native.Mathlib.Nat.zero-lt-suc 0) (pow-pos 149)) e))
-    (round-near binary32 s w 1 k (native.Mathlib.Nat.zero-lt-suc 0) (omega arith) (lt-of-lt-of-le h (le-of-eq (sym (mul-one (2 ^ (24 + k)))))))
+    subst (λ (z : Float). Rounding binary32 z s w 1 (2 ^ k))
+    (sym (round-same binary32 s N C w (1 * unit) P (mul-pos (native.Mathlib.Nat.zero-lt-suc 0) (pow-pos 149)) e))
+    (round-near binary32 s w 1 k (native.Mathlib.Nat.zero-lt-suc 0) (omega arith)
+    (lt-of-lt-of-le h (le-of-eq (sym (mul-one (2 ^ (24 + k)))))))
 
 -- the sum is no more than the bound from zero, either way
 abbrev Bounded : ℕ → ℕ → ℕ → Type 0
 Bounded p l k = (p < l + 2 ^ (24 + k)) × (l < p + 2 ^ (24 + k))
 
 sum-near : (s : Bool) (A : ℕ) (t : Bool) (B C a b k : ℕ) → 0 < C → k ≤ 252 → A * unit ≡ a * C → B * unit ≡ b * C →
-    Bounded (cond s 0 a + cond t 0 b) (cond s a 0 + cond t b 0) k → Near 1 (sum binary32 s A t B C) (cond s 0 a + cond t 0 b) (cond s a 0 + cond t b 0) (2 ^ k)
+    Bounded (cond s 0 a + cond t 0 b) (cond s a 0 + cond t b 0) k → Near 1 (sum binary32 s A t B C) (cond s 0 a + cond t 0 b)
+    (cond s a 0 + cond t b 0) (2 ^ k)
 unfolding sum
 sum-near false A false B C a b k P K x y h =
     near-of _ false (a + b) 1 (2 ^ k) _ _ (rounding false (A + B) C (a + b) k P K (both A B C a b P x y) (omega arith)) (omega arith)
@@ -125,7 +142,8 @@ sum-near true A true B C a b k P K x y h =
     near-of _ true (a + b) 1 (2 ^ k) _ _ (rounding true (A + B) C (a + b) k P K (both A B C a b P x y) (omega arith)) (omega arith)
 sum-near false A true B C a b k P K x y h = go (ltb A B) (ltb→lt A B) (nltb→le A B)
   where
-    go : (c : Bool) → (T c → A < B) → (T (not c) → B ≤ A) → Near 1 (cond c (round binary32 true (B - A) C) (round binary32 false (A - B) C)) (a + 0) (0 + b) (2 ^ k)
+    go : (c : Bool) → (T c → A < B) → (T (not c) → B ≤ A) →
+        Near 1 (cond c (round binary32 true (B - A) C) (round binary32 false (A - B) C)) (a + 0) (0 + b) (2 ^ k)
     go true f g =
         let o : a ≤ b = order A B C a b P x y (le-of-lt (f tt)) in
         near-of _ true (b - a) 1 (2 ^ k) _ _ (rounding true (B - A) C (b - a) k P K (apart B A C b a P y x) (omega arith)) (omega arith)
@@ -134,7 +152,8 @@ sum-near false A true B C a b k P K x y h = go (ltb A B) (ltb→lt A B) (nltb→
         near-of _ false (a - b) 1 (2 ^ k) _ _ (rounding false (A - B) C (a - b) k P K (apart A B C a b P x y) (omega arith)) (omega arith)
 sum-near true A false B C a b k P K x y h = go (ltb A B) (ltb→lt A B) (nltb→le A B) (ltb B A) (ltb→lt B A) (nltb→le B A)
   where
-    go : (c : Bool) → (T c → A < B) → (T (not c) → B ≤ A) → (d : Bool) → (T d → B < A) → (T (not d) → A ≤ B) → Near 1 (cond c (round binary32 false (B - A) C) (round binary32 d (A - B) C)) (0 + b) (a + 0) (2 ^ k)
+    go : (c : Bool) → (T c → A < B) → (T (not c) → B ≤ A) → (d : Bool) → (T d → B < A) → (T (not d) → A ≤ B) →
+        Near 1 (cond c (round binary32 false (B - A) C) (round binary32 d (A - B) C)) (0 + b) (a + 0) (2 ^ k)
     go true f g d i j =
         let o : a ≤ b = order A B C a b P x y (le-of-lt (f tt)) in
         near-of _ false (b - a) 1 (2 ^ k) _ _ (rounding false (B - A) C (b - a) k P K (apart B A C b a P y x) (omega arith)) (omega arith)
@@ -150,7 +169,8 @@ sum-near true A false B C a b k P K x y h = go (ltb A B) (ltb→lt A B) (nltb→
 cross : (x d c a : ℕ) → x * unit ≡ a * d → x * c * unit ≡ a * (d * c)
 cross x d c a e = mul-right-comm x c unit ∙ ap (λ (u : ℕ). u * c) e ∙ mul-assoc a d c
 
-pub add-near : (x y : Float) (k : ℕ) → Good x → Good y → k ≤ 252 → Bounded (plus x + plus y) (less x + less y) k → Near 1 (add binary32 x y) (plus x + plus y) (less x + less y) (2 ^ k)
+pub add-near : (x y : Float) (k : ℕ) → Good x → Good y → k ≤ 252 → Bounded (plus x + plus y) (less x + less y) k →
+    Near 1 (add binary32 x y) (plus x + plus y) (less x + less y) (2 ^ k)
 unfolding add
 add-near nan y k p q K h = absurd (p .fin?)
 add-near (inf s) y k p q K h = absurd (p .fin?)
@@ -189,18 +209,22 @@ plus-neg (inf false) = (refl, refl)
 plus-neg (fin true m e) = (refl, refl)
 plus-neg (fin false m e) = (refl, refl)
 
-pub sub-near : (x y : Float) (k : ℕ) → Good x → Good y → k ≤ 252 → Bounded (plus x + less y) (less x + plus y) k → Near 1 (sub binary32 x y) (plus x + less y) (less x + plus y) (2 ^ k)
+pub sub-near : (x y : Float) (k : ℕ) → Good x → Good y → k ≤ 252 → Bounded (plus x + less y) (less x + plus y) k →
+    Near 1 (sub binary32 x y) (plus x + less y) (less x + plus y) (2 ^ k)
 unfolding sub
 sub-near x y k p q K h =
     let n = plus-neg y in
-    let near : Near 1 (add binary32 x (neg y)) (plus x + plus (neg y)) (less x + less (neg y)) (2 ^ k) = add-near x (neg y) k p (neg-good y q) K (rw (n .0, n .1) h) in
+    let near : Near 1 (add binary32 x (neg y)) (plus x + plus (neg y)) (less x + less (neg y)) (2 ^ k) =
+    add-near x (neg y) k p (neg-good y q) K (rw (n .0, n .1) h) in
     rw (n .0, n .1) at near
 
 -- a product with b / c: c times it is near b times the other
-pub mul-near : (x y : Float) (b c k : ℕ) → 0 < c → HasValue x false b c → Good y → k ≤ 252 → b * (plus y + less y) < 2 ^ (24 + k) * c → Near c (mul binary32 x y) (b * plus y) (b * less y) (2 ^ k)
+pub mul-near : (x y : Float) (b c k : ℕ) → 0 < c → HasValue x false b c → Good y → k ≤ 252 → b * (plus y + less y) < 2 ^ (24 + k) * c →
+    Near c (mul binary32 x y) (b * plus y) (b * less y) (2 ^ k)
 mul-near x nan b c k C v q K h = absurd (q .fin?)
 mul-near x (inf t) b c k C v q K h = absurd (q .fin?)
-mul-near x (fin t n d) b c k C v q K h = go t (value-units t n d (q .fit)) (units-of (fin t n d) t (unitsOf (fin t n d)) (value-units t n d (q .fit))) h
+mul-near x (fin t n d) b c k C v q K h =
+    go t (value-units t n d (q .fit)) (units-of (fin t n d) t (unitsOf (fin t n d)) (value-units t n d (q .fit))) h
   where
     y : Bool → Float
     y t = fin t n d
@@ -208,13 +232,15 @@ mul-near x (fin t n d) b c k C v q K h = go t (value-units t n d (q .fit)) (unit
     a : ℕ
     a = unitsOf (fin t n d)
 
-    rounds : (t : Bool) → HasValue (y t) t a unit → unlike false t ≡ t → b * a < 2 ^ (24 + k) * c → Rounding binary32 (mul binary32 x (y t)) t (b * a) c (2 ^ k)
+    rounds : (t : Bool) → HasValue (y t) t a unit → unlike false t ≡ t → b * a < 2 ^ (24 + k) * c →
+        Rounding binary32 (mul binary32 x (y t)) t (b * a) c (2 ^ k)
     rounds t w e l =
         subst (λ (z : Float). Rounding binary32 z t (b * a) c (2 ^ k))
         (sym (mul-value binary32 x (y t) false b c t a unit C (pow-pos 149) v w ∙ ap (λ (s : Bool). round binary32 s (b * a) (c * unit)) e))
         (round-near binary32 t (b * a) c k C (omega arith) l)
 
-    go : (t : Bool) → HasValue (y t) t a unit → (plus (y t) ≡ cond t 0 a) × (less (y t) ≡ cond t a 0) → b * (plus (y t) + less (y t)) < 2 ^ (24 + k) * c → Near c (mul binary32 x (y t)) (b * plus (y t)) (b * less (y t)) (2 ^ k)
+    go : (t : Bool) → HasValue (y t) t a unit → (plus (y t) ≡ cond t 0 a) × (less (y t) ≡ cond t a 0) →
+        b * (plus (y t) + less (y t)) < 2 ^ (24 + k) * c → Near c (mul binary32 x (y t)) (b * plus (y t)) (b * less (y t)) (2 ^ k)
     go false w u l =
         let p : b * plus (y false) ≡ b * a = ap (λ (i : ℕ). b * i) (u .0) in
         let m : b * less (y false) ≡ 0 = ap (λ (i : ℕ). b * i) (u .1) ∙ mul-zero b in

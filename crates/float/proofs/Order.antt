@@ -108,7 +108,8 @@ under-trans true a true b false c h k = tt
 under-trans true a true b true c h k = le-trans k h
 
 -- ---- floats that have a value
-pub le-values : (x y : Float) (s : Bool) (a c : ℕ) (t : Bool) (b d : ℕ) → 0 < c → 0 < d → HasValue x s a c → HasValue y t b d → Under s (a * d) t (b * c) → T (le x y)
+pub le-values : (x y : Float) (s : Bool) (a c : ℕ) (t : Bool) (b d : ℕ) → 0 < c → 0 < d → HasValue x s a c → HasValue y t b d →
+    Under s (a * d) t (b * c) → T (le x y)
 unfolding le lt eq
 le-values nan y s a c t b d C D p q h = absurd p
 le-values (inf z) y s a c t b d C D p q h = absurd p
@@ -188,7 +189,8 @@ le-of-not-lt (fin s m e) (inf t) p q h = absurd q
 le-of-not-lt (fin s m e) (fin t n d) p q h = under-test t (n * up d * down e) s (m * up e * down d) (under-of-not s (m * up e * down d) t (n * up d * down e) h)
 
 -- ---- and the way back: the order of floats says the order of their values
-pub values-le : (x y : Float) (s : Bool) (a c : ℕ) (t : Bool) (b d : ℕ) → 0 < c → 0 < d → HasValue x s a c → HasValue y t b d → T (le x y) → Under s (a * d) t (b * c)
+pub values-le : (x y : Float) (s : Bool) (a c : ℕ) (t : Bool) (b d : ℕ) → 0 < c → 0 < d → HasValue x s a c → HasValue y t b d →
+    T (le x y) → Under s (a * d) t (b * c)
 unfolding le lt eq
 values-le nan y s a c t b d C D p q h = absurd p
 values-le (inf z) y s a c t b d C D p q h = absurd p

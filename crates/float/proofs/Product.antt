@@ -12,7 +12,8 @@ use lib.Ieee.Bits.{cond-no}
 use lib.Ieee.Exact.{HasValue}
 use lib.Ieee.Scale.{round-same}
 
-pub mul-value : (f : Format) (x y : Float) (s : Bool) (a c : ℕ) (t : Bool) (b d : ℕ) → 0 < c → 0 < d → HasValue x s a c → HasValue y t b d → mul f x y ≡ round f (unlike s t) (a * b) (c * d)
+pub mul-value : (f : Format) (x y : Float) (s : Bool) (a c : ℕ) (t : Bool) (b d : ℕ) → 0 < c → 0 < d → HasValue x s a c →
+    HasValue y t b d → mul f x y ≡ round f (unlike s t) (a * b) (c * d)
 unfolding mul
 mul-value f nan y s a c t b d C D p q = absurd p
 mul-value f (inf z) y s a c t b d C D p q = absurd p
@@ -40,7 +41,8 @@ digits n u b g d e B G = go (eqb n 0) (eqb→eq n 0)
     go false z = tt
     go true z = absurd (contra (b * g) (mul-pos B G) (sym e ∙ ap (λ (k : ℕ). k * u * d) (z tt) ∙ ap (λ (k : ℕ). k * d) (zero-mul u) ∙ zero-mul d))
 
-pub div-value : (f : Format) (x y : Float) (s : Bool) (a c : ℕ) (t : Bool) (b d : ℕ) → 0 < c → 0 < d → 0 < b → HasValue x s a c → HasValue y t b d → div f x y ≡ round f (unlike s t) (a * d) (b * c)
+pub div-value : (f : Format) (x y : Float) (s : Bool) (a c : ℕ) (t : Bool) (b d : ℕ) → 0 < c → 0 < d → 0 < b → HasValue x s a c →
+    HasValue y t b d → div f x y ≡ round f (unlike s t) (a * d) (b * c)
 unfolding div
 div-value f nan y s a c t b d C D B p q = absurd p
 div-value f (inf z) y s a c t b d C D B p q = absurd p

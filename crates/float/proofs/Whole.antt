@@ -1,21 +1,19 @@
 -- Whole numbers as singles, in units of 2^-149: a number below 2^24 in size is exact. And what is known of a finite single by its units:
 -- it does not exceed 2^k where it has no more than 2^k × 2^149 of them. Assumes nothing.
 use mathlib.Core.Path.{_≡_, sym, ap, _∙_}
-use mathlib.Core.Bool.{Bool, true, false, not, _||_}
+use mathlib.Core.Bool.{Bool, true, false}
 use Prim.Native.Nat.{ℕ, suc, _*_, _^_, _≤_, _<_, zero-le}
-use native.Mathlib.Nat.{le-trans, le-of-eq, mul-one, one-mul, mul-right-comm, mul-le-mul-right, le-of-mul-le-mul-right}
-use lib.Arith.{le→nltb}
-use lib.Dec.{T, ltb}
+use native.Mathlib.Nat.{le-trans, le-of-eq, mul-one, mul-right-comm, mul-le-mul-right, le-of-mul-le-mul-right}
 use lib.Pow.{pow-pos}
 use lib.IntN.{ℤ, pos, negsuc}
-use lib.Ieee.{Float, nan, inf, fin, binary32, up, down, round, ofInt, lt, neg}
+use lib.Ieee.{Float, nan, inf, fin, binary32, up, down, round, ofInt}
 use lib.Ieee.Exact.{HasValue}
 use lib.Ieee.Fits.{ofInt-fits}
 use Rattle.float.specs.Difference.{negative, unitsOf, plus, less}
 use Rattle.float.specs.Finite.{power, exceeds}
 use Rattle.float.proofs.Dyadic.{dyadic-exact}
 use Rattle.float.proofs.Near.{unit, Good, value-units, units-of}
-use Rattle.float.proofs.Strict.{no}
+use Rattle.float.proofs.Bound.{within}
 use Rattle.float.proofs.Value.{value-finite}
 
 -- ---- a whole number
@@ -46,31 +44,30 @@ unfolding ofInt
 whole (pos n) h k =
     let x = round binary32 false n 1 in
     let v = exact false n h in
-    record { good = record { fit = ofInt-fits binary32 (pos n); fin? = value-finite x false (n * unit) unit v }; over = units-of x false (n * unit) v .0; under = units-of x false (n * unit) v .1 }
+    record {
+      good = record { fit = ofInt-fits binary32 (pos n); fin? = value-finite x false (n * unit) unit v };
+      over = units-of x false (n * unit) v .0;
+      under = units-of x false (n * unit) v .1;
+    }
 whole (negsuc n) h k =
     let x = round binary32 true (suc n) 1 in
     let v = exact true (suc n) k in
-    record { good = record { fit = ofInt-fits binary32 (negsuc n); fin? = value-finite x true (suc n * unit) unit v }; over = units-of x true (suc n * unit) v .0; under = units-of x true (suc n * unit) v .1 }
+    record {
+      good = record { fit = ofInt-fits binary32 (negsuc n); fin? = value-finite x true (suc n * unit) unit v };
+      over = units-of x true (suc n * unit) v .0;
+      under = units-of x true (suc n * unit) v .1;
+    }
 
 -- ---- a bound
-no-more : (s : Bool) (m : ℕ) (e : ℤ) (k : ℕ) → m * up e ≤ 2 ^ k * down e → exceeds (power k) (fin s m e) ≡ false
-unfolding lt neg
-no-more false m e k h = no (ltb (1 * 2 ^ k * down e) (m * up e * 1) || false) (or-no (ltb (1 * 2 ^ k * down e) (m * up e * 1)) (le→nltb (1 * 2 ^ k * down e) (m * up e * 1) (le-trans (le-of-eq (mul-one (m * up e))) (le-trans h (le-of-eq (ap (λ (n : ℕ). n * down e) (sym (one-mul (2 ^ k)))))))))
-  where
-    or-no : (b : Bool) → T (not b) → T (b || false) → ⊥
-    or-no true n t = n
-    or-no false n t = t
-no-more true m e k h = no (ltb (1 * 2 ^ k * down e) (m * up e * 1)) (not-and (ltb (1 * 2 ^ k * down e) (m * up e * 1)) (le→nltb (1 * 2 ^ k * down e) (m * up e * 1) (le-trans (le-of-eq (mul-one (m * up e))) (le-trans h (le-of-eq (ap (λ (n : ℕ). n * down e) (sym (one-mul (2 ^ k)))))))))
-  where
-    not-and : (b : Bool) → T (not b) → T b → ⊥
-    not-and true n t = n
-    not-and false n t = t
-
 pub units-bound : (x : Float) (k : ℕ) → Good x → plus x ≤ 2 ^ k * unit → less x ≤ 2 ^ k * unit → exceeds (power k) x ≡ false
 unfolding negative plus less
 units-bound nan k g h l = absurd (g .fin?)
 units-bound (inf s) k g h l = absurd (g .fin?)
-units-bound (fin s m e) k g h l = no-more s m e k (le-of-mul-le-mul-right (le-trans (le-of-eq (value-units s m e (g .fit) .1)) (le-trans (mul-le-mul-right (down e) (size s h l)) (le-of-eq (mul-right-comm (2 ^ k) unit (down e))))) (pow-pos 149))
+units-bound (fin s m e) k g h l =
+    within k s m e
+    (le-of-mul-le-mul-right
+    (le-trans (le-of-eq (value-units s m e (g .fit) .1))
+    (le-trans (mul-le-mul-right (down e) (size s h l)) (le-of-eq (mul-right-comm (2 ^ k) unit (down e))))) (pow-pos 149))
   where
     size : (s : Bool) → plus (fin s m e) ≤ 2 ^ k * unit → less (fin s m e) ≤ 2 ^ k * unit → unitsOf (fin s m e) ≤ 2 ^ k * unit
     size false h l = h

@@ -29,7 +29,9 @@ abbrev pub Outcome : (ℕ → Float) → (ℕ → Float) → ℕ → ℕ → Bes
 Outcome num den a b s = (s ≡ nothing) ⊎ Chosen num den a b s
 
 -- a lag leaves the winner or takes its place
-pub moved : (beats : Rule) (s : Best) (j : ℕ) (num den : Float) → (offered beats s j num den ≡ s) ⊎ ((positive num den ≡ true) × (offered beats s j num den ≡ record { found = true; ratio = ratioOf num den; lag = j }))
+pub moved : (beats : Rule) (s : Best) (j : ℕ) (num den : Float) →
+    (offered beats s j num den ≡ s)
+    ⊎ ((positive num den ≡ true) × (offered beats s j num den ≡ record { found = true; ratio = ratioOf num den; lag = j }))
 unfolding offered challenged
 moved beats s j num den = go (positive num den) (not (s .found) || beats s j (ratioOf num den))
   where
@@ -53,10 +55,13 @@ module _ (beats : Rule) (num den : ℕ → Float) (a b : ℕ) where
       ]
 
   pub outcome : Outcome num den a b (over a b (λ j s. offered beats s j (num j) (den j)) nothing)
-  outcome = keeps (Outcome num den a b) (b - a) (λ i. offers (a + i)) nothing (inl refl) (λ i s l. chosen-more (a + i) s (omega arith) (omega arith))
+  outcome =
+      keeps (Outcome num den a b) (b - a) (λ i. offers (a + i)) nothing (inl refl)
+      (λ i s l. chosen-more (a + i) s (omega arith) (omega arith))
 
 -- the answer of a search: 18, or a lag of the range that counts
-pub winner-outcome : (beats : Rule) (f : List Float) (o count a b : ℕ) → Outcome (cross f o count) (power f o count) a b (winner beats f o count a b)
+pub winner-outcome : (beats : Rule) (f : List Float) (o count a b : ℕ) →
+    Outcome (cross f o count) (power f o count) a b (winner beats f o count a b)
 unfolding winner
 winner-outcome beats f o count a b = outcome beats (cross f o count) (power f o count) a b
 
@@ -72,7 +77,8 @@ pub outcome-below : (num den : ℕ → Float) (a b m : ℕ) (s : Best) → Outco
 outcome-below num den a b m s (inl e) h l = omega (arith, nothing-lag s e)
 outcome-below num den a b m s (inr r) h l = omega (arith, r .below)
 
-pub within : (beats : Rule) (num den : ℕ → Float) (a b : ℕ) (s : Best) → s ≡ over a b (λ j x. offered beats x j (num j) (den j)) nothing → s .found ≡ true → (a ≤ s .lag) × (s .lag < b)
+pub within : (beats : Rule) (num den : ℕ → Float) (a b : ℕ) (s : Best) →
+    s ≡ over a b (λ j x. offered beats x j (num j) (den j)) nothing → s .found ≡ true → (a ≤ s .lag) × (s .lag < b)
 within beats num den a b s e h = go (subst (Outcome num den a b) (sym e) (outcome beats num den a b))
   where
     go : Outcome num den a b s → (a ≤ s .lag) × (s .lag < b)
@@ -84,14 +90,17 @@ near : (s : Best) (j : ℕ) (c : Float) → j < s .lag + 18 → preferred s j c 
 unfolding preferred greater
 near s j c h = rw (lt-ltb j (s .lag + 18) h)
 
-either-rule : (s : Best) (j : ℕ) (num den : Float) → (s .found ≡ false) ⊎ (j < s .lag + 18) → offered preferred s j num den ≡ offered greater s j num den
+either-rule : (s : Best) (j : ℕ) (num den : Float) → (s .found ≡ false) ⊎ (j < s .lag + 18) →
+    offered preferred s j num den ≡ offered greater s j num den
 unfolding offered challenged
 either-rule s j num den (inl e) = rw e
 either-rule s j num den (inr h) = rw (near s j (ratioOf num den) h)
 
-pub rules-agree : (num den : ℕ → Float) (a b : ℕ) → b ≤ a + 18 → over a b (λ j s. offered preferred s j (num j) (den j)) nothing ≡ over a b (λ j s. offered greater s j (num j) (den j)) nothing
+pub rules-agree : (num den : ℕ → Float) (a b : ℕ) → b ≤ a + 18 →
+    over a b (λ j s. offered preferred s j (num j) (den j)) nothing ≡ over a b (λ j s. offered greater s j (num j) (den j)) nothing
 rules-agree num den a b h =
-    same-reached (Outcome num den a b) (b - a) (λ i s. offered preferred s (a + i) (num (a + i)) (den (a + i))) (λ i s. offered greater s (a + i) (num (a + i)) (den (a + i))) nothing (inl refl)
+    same-reached (Outcome num den a b) (b - a) (λ i s. offered preferred s (a + i) (num (a + i)) (den (a + i)))
+    (λ i s. offered greater s (a + i) (num (a + i)) (den (a + i))) nothing (inl refl)
     (λ i s l r. chosen-more preferred num den a b (a + i) s (omega arith) (omega arith) r)
     (λ i s l r. either-rule s (a + i) (num (a + i)) (den (a + i)) (reach i s l r))
   where

@@ -1,4 +1,5 @@
--- `cosine::angle` meets its contract: the product with π and its 2^24th part are exact as doubles, so that narrowing is the one rounding. Assumes nothing.
+-- `cosine::angle` meets its contract: the product with π and its 2^24th part are exact as doubles, so that narrowing is the one
+-- rounding. Assumes nothing.
 use borrow.Author.Needs.{needs}
 use mathlib.Core.Path.{_≡_, refl, sym, ap, _∙_, subst}
 use mathlib.Core.Bool.{false}
@@ -32,7 +33,8 @@ product : (k : ℕ) → k ≤ 2 ^ 24 → HasValue (mul binary64 (ofInt binary64 
 unfolding ofInt ofBits
 product k h =
     subst (λ (x : Float). HasValue x false (k * 13176795) (2 ^ 22))
-    (sym (mul-value binary64 (round binary64 false k 1) pi false k 1 false 13176795 (2 ^ 22) (lit< tt) (pow-pos 22) (round-whole binary64 false k (le-trans h (lit≤ tt))) (refl, refl)))
+    (sym (mul-value binary64 (round binary64 false k 1) pi false k 1 false 13176795 (2 ^ 22) (lit< tt) (pow-pos 22)
+    (round-whole binary64 false k (le-trans h (lit≤ tt))) (refl, refl)))
     (dyadic-exact binary64 false (k * 13176795) 22 (small k h) (lit≤ tt))
 
 quotient : (k : ℕ) → k ≤ 2 ^ 24 → HasValue (div binary64 (mul binary64 (ofInt binary64 (pos k)) pi) half) false (k * 13176795) (2 ^ 46)
@@ -40,13 +42,16 @@ unfolding ofBits
 quotient k h =
     subst (λ (x : Float). HasValue x false (k * 13176795) (2 ^ 46))
     (sym
-    (div-value binary64 (mul binary64 (ofInt binary64 (pos k)) pi) half false (k * 13176795) (2 ^ 22) false (2 ^ 24) 1 (pow-pos 22) (lit< tt) (pow-pos 24) (product k h) (refl, refl)
+    (div-value binary64 (mul binary64 (ofInt binary64 (pos k)) pi) half false (k * 13176795) (2 ^ 22) false (2 ^ 24) 1 (pow-pos 22)
+    (lit< tt) (pow-pos 24) (product k h) (refl, refl)
     ∙ ap (λ (n : ℕ). round binary64 false n (2 ^ 46)) (mul-one (k * 13176795))))
     (dyadic-exact binary64 false (k * 13176795) 46 (small k h) (lit≤ tt))
 
 narrowed : (k : ℕ) (r : Float) → k ≤ 2 ^ 24 → r ≡ narrow (div binary64 (mul binary64 (ofInt binary64 (pos k)) pi) half) → r ≡ angle k
 unfolding angle
-narrowed k r h e = e ∙ rounded-value binary32 (div binary64 (mul binary64 (ofInt binary64 (pos k)) pi) half) false (k * 13176795) (2 ^ 46) (pow-pos 46) (quotient k h)
+narrowed k r h e =
+    e ∙ rounded-value binary32 (div binary64 (mul binary64 (ofInt binary64 (pos k)) pi) half) false (k * 13176795) (2 ^ 46)
+    (pow-pos 46) (quotient k h)
 
 pub angle-spec : {M : Type 1} → statement M
 angle-spec =

@@ -24,6 +24,7 @@ entry-at-spec =
     -- element-copy-out-result
     (λ c. search needs)
     -- cast-result
-    (λ c. subst (Fits w64) (sym (looked _ _ (c .before .pre .0) (c .before .pre .1))) (fits-le (at-most _ (c .before .pre .1)) (fits-lit tt)))
+    (λ c. subst (Fits w64) (sym (looked _ _ (c .before .pre .0) (c .before .pre .1)))
+    (fits-le (at-most _ (c .before .pre .1)) (fits-lit tt)))
     -- returns
     (λ c. looked _ _ (c .before .pre .0) (c .before .pre .1)))

@@ -20,7 +20,8 @@ counted k h = le→leb k (2 ^ 24) h
 quotient : (k : ℕ) → k ≤ 2 ^ 24 → div binary32 (ofInt binary32 (pos k)) (ofBits binary32 1140850688) ≡ frequency k
 unfolding ofInt ofBits frequency single
 quotient k h =
-    div-value binary32 (round binary32 false k 1) (ofBits binary32 1140850688) false k 1 false 512 1 (lit< tt) (lit< tt) (lit< tt) (round-whole binary32 false k h) (refl, refl)
+    div-value binary32 (round binary32 false k 1) (ofBits binary32 1140850688) false k 1 false 512 1 (lit< tt) (lit< tt) (lit< tt)
+    (round-whole binary32 false k h) (refl, refl)
     ∙ ap (λ (x : ℕ). round binary32 false x 512) (mul-one k)
 
 pub frequency-spec : {M : Type 1} → statement M

@@ -29,7 +29,9 @@ both a i b c j d e h l f k m = fits-le (sum (a * b) (c * d) (under a i b e h l) 
 
 alone : (k a : ℕ) → a ≡ quarter (k / 4096) → k % 4096 ≡ 0 → a * (4096 - k % 4096) ≡ low k
 unfolding low
-alone k a e z = rw (e, z) (sym (ap (λ (n : ℕ). quarter (k / 4096) * 4096 + n) (mul-zero (quarter (suc (k / 4096)))) ∙ add-zero (quarter (k / 4096) * 4096)))
+alone k a e z =
+    rw (e, z) (sym (ap (λ (n : ℕ). quarter (k / 4096) * 4096 + n) (mul-zero (quarter (suc (k / 4096)))) ∙ add-zero
+    (quarter (k / 4096) * 4096)))
 
 pair : (k a b : ℕ) → a ≡ quarter (k / 4096) → b ≡ quarter (k / 4096 + 1) → a * (4096 - k % 4096) + b * (k % 4096) ≡ low k
 unfolding low
@@ -58,6 +60,7 @@ low-blend-spec =
     -- mul-result
     (λ c. small _ _ _ (c .entry-at2 .ensures) (omega arith) (omega arith))
     -- add-result
-    (λ c. both _ _ _ _ _ _ (c .before .before .entry-at .ensures) (omega arith) (omega arith) (c .entry-at2 .ensures) (omega arith) (omega arith))
+    (λ c. both _ _ _ _ _ _ (c .before .before .entry-at .ensures) (omega arith) (omega arith) (c .entry-at2 .ensures) (omega arith)
+    (omega arith))
     -- returns-2
     (λ c. pair _ _ _ (c .before .before .entry-at .ensures) (c .entry-at2 .ensures)))

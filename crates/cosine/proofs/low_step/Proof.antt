@@ -1,4 +1,5 @@
--- `cosine::low_step` meets its contract: n lies between the two entries that it reads, and one division counts the steps from the first. Assumes nothing.
+-- `cosine::low_step` meets its contract: n lies between the two entries that it reads, and one division counts the steps from the first.
+-- Assumes nothing.
 use borrow.Author.Needs.{needs}
 use native.Mathlib.Omega.{arith}
 use native.Mathlib.Nat.{le-of-lt}
@@ -21,22 +22,32 @@ low-step-spec =
     -- entry-at-requires-2
     (λ c κs. (c .before .before .before .pre, omega (arith, segment _ _ (c .before .before .if1 .left) (c .before .place .ensures) .room)))
     -- mul-s
-    (λ c. let r = ready _ _ _ _ (c .before .before .before .if1 .left) (c .before .before .place .ensures) (c .before .entry-at .ensures) (c .entry-at2 .ensures) in omega arith)
+    (λ c. let r = ready _ _ _ _ (c .before .before .before .if1 .left) (c .before .before .place .ensures)
+    (c .before .entry-at .ensures) (c .entry-at2 .ensures) in omega arith)
     -- sub-s
-    (λ c. let r = ready _ _ _ _ (c .before .before .before .if1 .left) (c .before .before .place .ensures) (c .before .entry-at .ensures) (c .entry-at2 .ensures) in omega arith)
+    (λ c. let r = ready _ _ _ _ (c .before .before .before .if1 .left) (c .before .before .place .ensures)
+    (c .before .entry-at .ensures) (c .entry-at2 .ensures) in omega arith)
     -- sub-s-2
-    (λ c. let r = ready _ _ _ _ (c .before .before .before .if1 .left) (c .before .before .place .ensures) (c .before .entry-at .ensures) (c .entry-at2 .ensures) in omega arith)
+    (λ c. let r = ready _ _ _ _ (c .before .before .before .if1 .left) (c .before .before .place .ensures)
+    (c .before .entry-at .ensures) (c .entry-at2 .ensures) in omega arith)
     -- sub-s-3
-    (λ c. let r = ready _ _ _ _ (c .before .before .before .if1 .left) (c .before .before .place .ensures) (c .before .entry-at .ensures) (c .entry-at2 .ensures) in omega arith)
+    (λ c. let r = ready _ _ _ _ (c .before .before .before .if1 .left) (c .before .before .place .ensures)
+    (c .before .entry-at .ensures) (c .entry-at2 .ensures) in omega arith)
     -- div-s
-    (λ c. let r = ready _ _ _ _ (c .before .before .before .if1 .left) (c .before .before .place .ensures) (c .before .entry-at .ensures) (c .entry-at2 .ensures) in omega arith)
+    (λ c. let r = ready _ _ _ _ (c .before .before .before .if1 .left) (c .before .before .place .ensures)
+    (c .before .entry-at .ensures) (c .entry-at2 .ensures) in omega arith)
     -- add-s
-    (λ c. let r = ready _ _ _ _ (c .before .before .before .if1 .left) (c .before .before .place .ensures) (c .before .entry-at .ensures) (c .entry-at2 .ensures) in omega arith)
+    (λ c. let r = ready _ _ _ _ (c .before .before .before .if1 .left) (c .before .before .place .ensures)
+    (c .before .entry-at .ensures) (c .entry-at2 .ensures) in omega arith)
     -- mul-result
-    (λ c. let r = ready _ _ _ _ (c .before .before .before .if1 .left) (c .before .before .place .ensures) (c .before .entry-at .ensures) (c .entry-at2 .ensures) in omega arith)
+    (λ c. let r = ready _ _ _ _ (c .before .before .before .if1 .left) (c .before .before .place .ensures)
+    (c .before .entry-at .ensures) (c .entry-at2 .ensures) in omega arith)
     -- add-result
-    (λ c. let r = ready _ _ _ _ (c .before .before .before .if1 .left) (c .before .before .place .ensures) (c .before .entry-at .ensures) (c .entry-at2 .ensures) in omega arith)
+    (λ c. let r = ready _ _ _ _ (c .before .before .before .if1 .left) (c .before .before .place .ensures)
+    (c .before .entry-at .ensures) (c .entry-at2 .ensures) in omega arith)
     -- cast-result
-    (λ c. let r = ready _ _ _ _ (c .before .before .before .if1 .left) (c .before .before .place .ensures) (c .before .entry-at .ensures) (c .entry-at2 .ensures) in omega arith)
+    (λ c. let r = ready _ _ _ _ (c .before .before .before .if1 .left) (c .before .before .place .ensures)
+    (c .before .entry-at .ensures) (c .entry-at2 .ensures) in omega arith)
     -- returns-2
-    (λ c. let r = ready _ _ _ _ (c .before .before .before .if1 .left) (c .before .before .place .ensures) (c .before .entry-at .ensures) (c .entry-at2 .ensures) in r .is))
+    (λ c. let r = ready _ _ _ _ (c .before .before .before .if1 .left) (c .before .before .place .ensures)
+    (c .before .entry-at .ensures) (c .entry-at2 .ensures) in r .is))

@@ -20,9 +20,11 @@ abbrev μ-loop : tie.MeasureT-loop
 μ-loop t q lo₀ half₀ lo half = half
 
 -- one turn: what the code compares is the test at the middle
-turn : (q x lo half next : ℕ) (b : Bool) → 0 < half → x ≡ quarter (lo + half) → leb x q ≡ b → next ≡ cond b lo (lo + half) → Halving 11 (entryWithin q) lo half → Halving 11 (entryWithin q) next (half / 2)
+turn : (q x lo half next : ℕ) (b : Bool) → 0 < half → x ≡ quarter (lo + half) → leb x q ≡ b → next ≡ cond b lo (lo + half) →
+    Halving 11 (entryWithin q) lo half → Halving 11 (entryWithin q) next (half / 2)
 turn q x lo half next b h e t n r =
-    subst (λ (l : ℕ). Halving 11 (entryWithin q) l (half / 2)) (sym n) (halving-more 11 (entryWithin q) lo half b h (ap (λ (y : ℕ). leb y q) (sym e) ∙ t) r)
+    subst (λ (l : ℕ). Halving 11 (entryWithin q) l (half / 2)) (sym n)
+    (halving-more 11 (entryWithin q) lo half b h (ap (λ (y : ℕ). leb y q) (sym e) ∙ t) r)
 
 pub place-spec : {M : Type 1} → statement M
 place-spec =
@@ -40,8 +42,10 @@ place-spec =
     (λ c. search needs)
     -- loop-again
     (λ c. ⊎-elim
-    (λ w. turn _ _ _ _ _ false (c .before .before .loop-test .taken) (c .before .entry-at .ensures) (not-true _ (w .0 .taken)) (w .1) (c .before .before .before .loop .inv))
-    (λ w. turn _ _ _ _ _ true (c .before .before .loop-test .taken) (c .before .entry-at .ensures) (not-false _ (w .0 .left)) (w .1) (c .before .before .before .loop .inv))
+    (λ w. turn _ _ _ _ _ false (c .before .before .loop-test .taken) (c .before .entry-at .ensures) (not-true _ (w .0 .taken)) (w .1)
+    (c .before .before .before .loop .inv))
+    (λ w. turn _ _ _ _ _ true (c .before .before .loop-test .taken) (c .before .entry-at .ensures) (not-false _ (w .0 .left)) (w .1)
+    (c .before .before .before .loop .inv))
     (c .if1 .came))
     -- returns
     (λ c. halving-done 11 _ _ _ (c .loop-test .left) (c .before .loop .inv)))

@@ -1,4 +1,5 @@
--- `cosine::step` meets its contract: on either side of the quarter circle the step found among the blends is the least that reaches what is held. Assumes nothing.
+-- `cosine::step` meets its contract: on either side of the quarter circle the step found among the blends is the least that reaches what
+-- is held. Assumes nothing.
 use borrow.Author.Needs.{needs}
 use mathlib.Core.Path.{_≡_, ap, _∙_}
 use mathlib.Core.Bool.{Bool, false}
@@ -35,10 +36,14 @@ step-spec =
     -- sub-result
     (λ c. search needs)
     -- returns-2
-    (λ c. step-high _ _ _ (within _ _ (c .before .before .before .before .hold .ensures)) (sign _ _ (c .before .before .if2 .taken)) (c .before .whole-below .ensures) (c .low-step .ensures) ∙ ap step (c .before .before .before .before .hold .ensures))
+    (λ c. step-high _ _ _ (within _ _ (c .before .before .before .before .hold .ensures)) (sign _ _ (c .before .before .if2 .taken))
+    (c .before .whole-below .ensures) (c .low-step .ensures)
+    ∙ ap step (c .before .before .before .before .hold .ensures))
     -- whole-part-requires
     (λ c κs. wider 0 16 _ (lit≤ tt) (within _ _ (c .before .before .hold .ensures)))
     -- low-step-requires-2
     (λ c κs. search needs)
     -- returns-3
-    (λ c. step-low _ _ _ (within _ _ (c .before .before .before .before .hold .ensures)) (c .before .before .before .if1 .left) (sign _ _ (c .before .before .if2 .left)) (c .before .whole-part .ensures) (c .low-step2 .ensures) ∙ ap step (c .before .before .before .before .hold .ensures)))
+    (λ c. step-low _ _ _ (within _ _ (c .before .before .before .before .hold .ensures)) (c .before .before .before .if1 .left)
+    (sign _ _ (c .before .before .if2 .left)) (c .before .whole-part .ensures) (c .low-step2 .ensures)
+    ∙ ap step (c .before .before .before .before .hold .ensures)))

@@ -24,4 +24,8 @@ step-of-frequency-spec =
     -- cast-result
     (λ c. omega (arith, bounded _ _ (c .whole-part .ensures) (c .before .pre)))
     -- returns
-    (λ c. (ap (λ (n : ℕ). n / 2 ^ 37) (c .whole-part .ensures) ∙ frequency-step _, omega (arith, bounded _ _ (c .whole-part .ensures) (c .before .pre)))))
+    (λ c. (
+      ap (λ (n : ℕ). n / 2 ^ 37) (c .whole-part .ensures) ∙ frequency-step _,
+      omega
+          (arith, bounded _ _ (c .whole-part .ensures) (c .before .pre)),
+    )))

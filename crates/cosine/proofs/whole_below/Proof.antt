@@ -22,7 +22,9 @@ unfolding inFloat
 counted x n h e = le→leb n (2 ^ 53) (le-trans (le-of-eq e) (le-trans (floor-le (2 ^ 46) 0 x h) (lit≤ tt)))
 
 -- the code's product, as the laws write it
-test : (x y : Float) (n : ℕ) (b : Bool) → y ≡ x → le (neg (ofInt binary64 (pos n))) (mul binary64 y (ofBits binary64 4814348001659060224)) ≡ b → le (neg (ofInt binary64 (pos n))) (up46 x) ≡ b
+test : (x y : Float) (n : ℕ) (b : Bool) → y ≡ x →
+    le (neg (ofInt binary64 (pos n))) (mul binary64 y (ofBits binary64 4814348001659060224)) ≡ b →
+    le (neg (ofInt binary64 (pos n))) (up46 x) ≡ b
 unfolding ofBits
 test x y n b e h = ap (λ (z : Float). le (neg (ofInt binary64 (pos n))) (up46 z)) (sym e) ∙ h
 
@@ -37,8 +39,15 @@ whole-below-spec =
     -- f32-to-f64-with-nan-requires
     (λ c κs. search needs)
     -- sub-result
-    (λ c. omega (arith, exactly _ _ (search needs) (c .before .before .before .before .pre .0) (c .before .before .before .before .pre .1) (c .before .before .before .whole-part .ensures) (test _ _ _ _ (c .before .f32-to-f64-with-nan .ensures) (c .if1 .taken)) .0))
+    (λ c. omega (
+      arith,
+      exactly _ _ (search needs) (c .before .before .before .before .pre .0)
+          (c .before .before .before .before .pre .1) (c .before .before .before .whole-part .ensures)
+          (test _ _ _ _ (c .before .f32-to-f64-with-nan .ensures) (c .if1 .taken)) .0,
+    ))
     -- returns
-    (λ c. exactly _ _ (search needs) (c .before .before .before .before .pre .0) (c .before .before .before .before .pre .1) (c .before .before .before .whole-part .ensures) (test _ _ _ _ (c .before .f32-to-f64-with-nan .ensures) (c .if1 .taken)) .1)
+    (λ c. exactly _ _ (search needs) (c .before .before .before .before .pre .0) (c .before .before .before .before .pre .1)
+    (c .before .before .before .whole-part .ensures) (test _ _ _ _ (c .before .f32-to-f64-with-nan .ensures) (c .if1 .taken)) .1)
     -- returns-2
-    (λ c. shortly _ _ (search needs) (c .before .before .before .before .pre .0) (c .before .before .before .before .pre .1) (c .before .before .before .whole-part .ensures) (test _ _ _ _ (c .before .f32-to-f64-with-nan .ensures) (c .if1 .left))))
+    (λ c. shortly _ _ (search needs) (c .before .before .before .before .pre .0) (c .before .before .before .before .pre .1)
+    (c .before .before .before .whole-part .ensures) (test _ _ _ _ (c .before .f32-to-f64-with-nan .ensures) (c .if1 .left))))

@@ -28,10 +28,12 @@ test-over : (x y : Float) (b : Bool) → y ≡ x → lt (ofBits binary64 0) (pro
 unfolding ofBits
 test-over x y b e h = ap (λ (z : Float). lt (fin false 0 (pos 0)) (up46 z)) (sym e) ∙ h
 
-cut-under : (x y : Float) → T (fits binary32 x) → exceeds (power 16) x ≡ false → y ≡ x → lt (product y) (ofBits binary64 0) ≡ true → Cut (neg (product y)) (floor (2 ^ 46) 1 x)
+cut-under : (x y : Float) → T (fits binary32 x) → exceeds (power 16) x ≡ false → y ≡ x → lt (product y) (ofBits binary64 0) ≡ true →
+    Cut (neg (product y)) (floor (2 ^ 46) 1 x)
 cut-under x y f h e k = subst (λ (z : Float). Cut (neg z) (floor (2 ^ 46) 1 x)) (sym (same x y e)) (under x f h (test-under x y true e k))
 
-cut-over : (x y : Float) → T (fits binary32 x) → exceeds (power 16) x ≡ false → y ≡ x → lt (ofBits binary64 0) (product y) ≡ true → Cut (product y) (floor (2 ^ 46) 1 x)
+cut-over : (x y : Float) → T (fits binary32 x) → exceeds (power 16) x ≡ false → y ≡ x → lt (ofBits binary64 0) (product y) ≡ true →
+    Cut (product y) (floor (2 ^ 46) 1 x)
 cut-over x y f h e k = subst (λ (z : Float). Cut z (floor (2 ^ 46) 1 x)) (sym (same x y e)) (over x f h (test-over x y true e k))
 
 -- what the cast asks, and what it answers
@@ -51,11 +53,16 @@ whole-part-spec =
     (λ c κs. asked _ _ (cut-under _ _ (search needs) (c .before .before .pre) (c .before .f32-to-f64-with-nan .ensures) (c .if1 .taken)))
     -- returns
     (λ c. cast _ _ _
-    (cut-under _ _ (search needs) (c .before .before .before .pre) (c .before .before .f32-to-f64-with-nan .ensures) (c .before .if1 .taken)) (c .truncating-f64-to-u64 .ensures))
+    (cut-under _ _ (search needs) (c .before .before .before .pre) (c .before .before .f32-to-f64-with-nan .ensures)
+    (c .before .if1 .taken)) (c .truncating-f64-to-u64 .ensures))
     -- truncating-f64-to-u64-requires-2
-    (λ c κs. asked _ _ (cut-over _ _ (search needs) (c .before .before .before .pre) (c .before .before .f32-to-f64-with-nan .ensures) (c .if2 .taken)))
+    (λ c κs. asked _ _ (cut-over _ _ (search needs) (c .before .before .before .pre) (c .before .before .f32-to-f64-with-nan .ensures)
+    (c .if2 .taken)))
     -- returns-2
     (λ c. cast _ _ _
-    (cut-over _ _ (search needs) (c .before .before .before .before .pre) (c .before .before .before .f32-to-f64-with-nan .ensures) (c .before .if2 .taken)) (c .truncating-f64-to-u642 .ensures))
+    (cut-over _ _ (search needs) (c .before .before .before .before .pre) (c .before .before .before .f32-to-f64-with-nan .ensures)
+    (c .before .if2 .taken)) (c .truncating-f64-to-u642 .ensures))
     -- returns-3
-    (λ c. flat _ (search needs) (c .before .before .before .pre) (test-under _ _ _ (c .before .before .f32-to-f64-with-nan .ensures) (c .before .if1 .left)) (test-over _ _ _ (c .before .before .f32-to-f64-with-nan .ensures) (c .if2 .left))))
+    (λ c. flat _ (search needs) (c .before .before .before .pre)
+    (test-under _ _ _ (c .before .before .f32-to-f64-with-nan .ensures) (c .before .if1 .left))
+    (test-over _ _ _ (c .before .before .f32-to-f64-with-nan .ensures) (c .if2 .left))))
