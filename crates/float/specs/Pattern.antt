@@ -1,5 +1,5 @@
 -- When a value and a bit pattern are the same: the value's pattern is that one, and every NaN is the same as every pattern of a NaN.
--- Used where answers are compared with stored ones: of no section of the Recommendation. Document 01, F6. Assumes nothing.
+-- Vocabulary, where answers are compared with stored ones: of no section of the Recommendation. Document 01, F6. Assumes nothing.
 use Prim.Native.Nat.{ℕ}
 use mathlib.Core.Bool.{Bool, cond}
 use lib.Dec.{eqb}

@@ -1,6 +1,6 @@
 -- A whole number divided by a power of two and rounded to the nearest whole number, a tie to the even one: how a double's digits become
 -- a single's.
--- Of no section of the Recommendation. Document 01, A7. Assumes nothing.
+-- Vocabulary, of no section of the Recommendation. Document 01, A7. Assumes nothing.
 use Prim.Native.Nat.{ℕ, _*_, _/_, _%_, _^_, compare}
 use lib.Ieee.{nearest}
 

@@ -1,5 +1,5 @@
 -- The recursion as the code runs it: all ten orders are gone through, and a flag says that it has stopped. That it reaches what
--- Levinson.antt says: proofs/Orders.antt. Assumes nothing.
+-- Levinson.antt says: proofs/Orders.antt. §2.4. Assumes nothing.
 use Prim.Native.Nat.{ℕ}
 use mathlib.Core.Bool.{true, false, cond}
 use mathlib.Core.List.{List}

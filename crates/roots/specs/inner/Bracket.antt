@@ -1,5 +1,5 @@
 -- Two ends as the code halves them: the value at the low end is kept from one halving to the next.
--- That it halves as the definition does: proofs/Halvings.antt. Assumes nothing.
+-- That it halves as the definition does: proofs/Halvings.antt. §2.5, step 1. Assumes nothing.
 use mathlib.Core.Bool.{cond}
 use mathlib.Core.List.{List}
 use lib.Ieee.{Float, lt}

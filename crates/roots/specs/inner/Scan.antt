@@ -1,5 +1,5 @@
 -- The walk as the code takes it: first a scan, which notes the points that roots were met between, then the roots of all five,
--- side by side and narrowed. That it is the walk: proofs/Walk.antt. Assumes nothing.
+-- side by side and narrowed. That it is the walk: proofs/Walk.antt. §2.5, step 1. Assumes nothing.
 use Prim.Native.Nat.{ℕ, _+_, _-_}
 use mathlib.Core.Bool.{Bool, cond, _&&_, _||_}
 use mathlib.Core.List.{List}
