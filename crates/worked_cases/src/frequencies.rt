@@ -22,6 +22,6 @@ pub fn refused(frequency: f32) -> bool {
     freq[9] = frequency;
     let answer = convert::lsp_freq_to_cosines(freq);
     let cosines = answer.lines;
-    let zeros = lists::all_zero(&cosines);
+    let zeros = lists::all_are(&cosines, 0);
     (answer.status == 6) & zeros
 }

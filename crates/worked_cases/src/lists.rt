@@ -1,10 +1,10 @@
 // Lists of singles, compared whole and by their bits.
 
-// Every one is +0, as a refusal's are.
-pub fn all_zero(xs: &[f32]) -> bool {
+// Every one has the pattern w; 0 is +0, as a refusal's are.
+pub fn all_are(xs: &[f32], w: u32) -> bool {
     let mut same = true;
     for i in 0..xs.len() {
-        let one = float::same_bits(xs[i], 0);
+        let one = float::same_bits(xs[i], w);
         same = same & one;
     }
     same

@@ -84,10 +84,15 @@ fn stage_cases(tally: Tally) -> Tally {
         b"ratio 101 at lag 35 wins over 100 at lag 18",
         stages::takes_over(35, 101.0),
     );
-    case(
+    let t = case(
         t,
         b"bare filter, lag 18, factor 0.25: 1, -0.25 at sample 18, and 58 zeros",
         stages::bare_filter(),
+    );
+    case(
+        t,
+        b"lag 146 is refused with 4, and the filter's memory is as it was",
+        stages::memory_kept(),
     )
 }
 

@@ -19,7 +19,7 @@ pub fn short_window() -> bool {
     let answer = lpc::lpc_analysis(&samples);
     let set = answer.set;
     let a = set.a;
-    let zeros = lists::all_zero(&a);
+    let zeros = lists::all_are(&a, 0);
     (answer.status == 1) & zeros & float::same_bits(set.k2, 0)
 }
 
@@ -43,4 +43,26 @@ pub fn bare_filter() -> bool {
     let out = answer.out;
     let response = lists::is_bare_response(&out);
     (answer.status == 0) & response
+}
+
+// Lag 146 is refused, and each of the four memories, all different, comes back as it was given.
+pub fn memory_kept() -> bool {
+    let mem = combined::CombinedMem {
+        syn: [1.0f32; 10],
+        wz: [2.0f32; 10],
+        wp: [3.0f32; 10],
+        p_hist: [0.5f32; 145],
+    };
+    let none = [0.0f32; 10];
+    let answer = combined::run_combined(mem, [0.25f32; 60], [0.0f32; 11], none, none, 146, 0.25);
+    let after = answer.mem;
+    let syn = after.syn;
+    let wz = after.wz;
+    let wp = after.wp;
+    let p_hist = after.p_hist;
+    let same_syn = lists::all_are(&syn, 0x3f80_0000);
+    let same_wz = lists::all_are(&wz, 0x4000_0000);
+    let same_wp = lists::all_are(&wp, 0x4040_0000);
+    let same_hist = lists::all_are(&p_hist, 0x3f00_0000);
+    (answer.status == 4) & same_syn & same_wz & same_wp & same_hist
 }

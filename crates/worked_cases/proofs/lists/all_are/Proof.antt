@@ -1,18 +1,18 @@
--- `worked_cases::lists::all_zero` is safe and ends: every place compared stands in the list. Assumes nothing.
+-- `worked_cases::lists::all_are` is safe and ends: every place compared stands in the list. Assumes nothing.
 use Prim.Native.Nat.{_-_, _≤_}
 use borrow.Author.Needs.{needs}
 use lib.ListN.{length}
-use Rattle.worked_cases.proofs.lists.all_zero.Statement.{statement}
-use Rattle.worked_cases.proofs.lists.all_zero.Tie as tie
+use Rattle.worked_cases.proofs.lists.all_are.Statement.{statement}
+use Rattle.worked_cases.proofs.lists.all_are.Tie as tie
 
 abbrev Inv-loop : tie.InvT-loop
-Inv-loop xs same₀ i₀ i-end same i = i ≤ length xs
+Inv-loop xs w same₀ i₀ i-end same i = i ≤ length xs
 
 abbrev μ-loop : tie.MeasureT-loop
-μ-loop xs same₀ i₀ i-end same i = length xs - i
+μ-loop xs w same₀ i₀ i-end same i = length xs - i
 
-pub all-zero-spec : {M : Type 1} → statement M
-all-zero-spec =
+pub all-are-spec : {M : Type 1} → statement M
+all-are-spec =
     tie.close
     (tie.spec
     Inv-loop
