@@ -193,7 +193,7 @@ pub fn imports(text: &str) -> Result<BTreeMap<String, String>, String> {
 }
 
 /// The file of a module of this repository; of another, the module.
-fn place(module: &str) -> String {
+pub fn place(module: &str) -> String {
     let found = module.strip_prefix("Rattle·").and_then(|rest| {
         let (of, path) = rest.split_once('.')?;
         Some(format!("crates/{}/{}.antt", of.split('·').next()?, path.replace('.', "/")))

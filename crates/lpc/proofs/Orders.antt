@@ -7,7 +7,6 @@ use mathlib.Core.Bool.{Bool, true, false, cond, _&&_}
 use mathlib.Core.List.{List}
 use Prim.Native.Nat.{ℕ, suc, _-_, _≤_, _<_}
 use native.Mathlib.Nat.{eq-or-lt-of-le}
-use native.Mathlib.Numerals.{add-one}
 use native.Mathlib.Omega.{arith}
 use borrow.Author.Tests.{eq-eqb, ne-eqb}
 use lib.Dec.{T, eqb, lit≤}
@@ -16,8 +15,7 @@ use lib.ListN.{getD}
 use Rattle.float.specs.Double.{double}
 use Rattle.float.specs.Narrow.{narrow}
 use Rattle.float.specs.Single.{single}
-use Rattle.float.proofs.Loop.{Went, went-none, went-more, went-all}
-use Rattle.float.proofs.Turns.{turns}
+use Rattle.float.proofs.Turns.{beside}
 use Rattle.lpc.specs.declared.Recursion.{Recursion}
 use Rattle.lpc.specs.Levinson.{reflection, raised, lessened, after, reflectionOf, inside, taken, reached, highest, levinson, second}
 use Rattle.lpc.specs.inner.Flagged.{advanced, tried, order, start, flagged}
@@ -78,20 +76,17 @@ second-noted r i k k2 e f s = record {
 raise-best : List Float → ℕ → ℕ → ℕ
 raise-best r n best = cond (reached r n) n best
 
-record Going (r : List Float) (i : ℕ) (s : Recursion) : Type 0 where
-  pub best : ℕ
-  pub went : Went 1 11 (raise-best r) 0 i best
+-- with `best` that highest order
+record Going (r : List Float) (i : ℕ) (s : Recursion) (best : ℕ) : Type 0 where
   pub coefficients : s .a ≡ after r best .0
   pub error : s .error ≡ after r best .1
   pub k2-so : Second r i (s .k2)
   pub down : s .stopped ≡ false → (suc best ≡ i) × (reached r best ≡ true) × (le (after r best .1) (double 0 1) ≡ false)
   pub up : s .stopped ≡ true → reached r i ≡ false
 
-begun : (r : List Float) → le (getD r 0 nan) (double 0 1) ≡ false → Going r 1 (start r)
+begun : (r : List Float) → le (getD r 0 nan) (double 0 1) ≡ false → Going r 1 (start r) 0
 unfolding start after reached
 begun r h = record {
-  best = 0;
-  went = went-none 1 11 (raise-best r) 0 (lit≤ tt);
   coefficients = refl;
   error = refl;
   k2-so = record { early = λ l. refl; late = λ l. absurd (omega arith) };
@@ -100,12 +95,7 @@ begun r h = record {
 }
 
 -- ---- turn i
-module _ (r : List Float) (i : ℕ) (s : Recursion) (h : i < 11) (g : Going r i s) where
-  next-best : (b : Bool) → reached r i ≡ b → Went 1 11 (raise-best r) 0 (suc i) (cond b i (g .best))
-  unfolding raise-best
-  next-best b e =
-      rw add-one at (went-more 1 11 (raise-best r) 0 i (g .best) (cond b i (g .best)) h (rw e) (g .went))
-
+module _ (r : List Float) (i : ℕ) (s : Recursion) (best : ℕ) (g : Going r i s best) where
   -- no order after one that is not reached is
   out-of-reach : reached r i ≡ false → reached r (suc i) ≡ false
   unfolding reached
@@ -113,16 +103,15 @@ module _ (r : List Float) (i : ℕ) (s : Recursion) (h : i < 11) (g : Going r i 
 
   -- order i is not reached, and the state stays, with the flag up
   stays : (t : Recursion) → t .a ≡ s .a → t .error ≡ s .error → t .k2 ≡ s .k2 → t .stopped ≡ true → reached r i ≡ false →
-      Going r (suc i) t
-  stays t a e k u o = record {
-    best = g .best;
-    went = next-best false o;
+      Going r (suc i) t (raise-best r i best)
+  unfolding raise-best
+  stays t a e k u o = rw o (record {
     coefficients = a ∙ g .coefficients;
     error = e ∙ g .error;
     k2-so = rw k (second-kept r i (s .k2) o (g .k2-so));
     down = λ d. never (sym d ∙ u);
     up = λ v. out-of-reach o;
-  }
+  })
 
   -- the flag is down, and k is the reflection
   module _ (d : s .stopped ≡ false) where
@@ -132,16 +121,16 @@ module _ (r : List Float) (i : ℕ) (s : Recursion) (h : i < 11) (g : Going r i 
     k-is : k ≡ reflectionOf r i
     unfolding k reflectionOf
     k-is =
-        let n : i - 1 ≡ g .best = omega (arith, g .down d .0) in
+        let n : i - 1 ≡ best = omega (arith, g .down d .0) in
         rw (n, g .coefficients, g .error)
 
     -- whether order i is reached is whether its reflection lies inside
     reached-so : (b : Bool) → inside k ≡ b → reached r i ≡ b
     unfolding reached taken
     reached-so b e =
-        let n : i ≡ suc (g .best) = sym (g .down d .0) in
-        let m : suc (g .best) - 1 ≡ g .best = omega arith in
-        let at-k : inside (reflectionOf r (suc (g .best))) ≡ b = rw (k-is, n) at e in
+        let n : i ≡ suc best = sym (g .down d .0) in
+        let m : suc best - 1 ≡ best = omega arith in
+        let at-k : inside (reflectionOf r (suc best)) ≡ b = rw (k-is, n) at e in
         rw (n, g .down d .1, at-k, m, g .down d .2) (and-true b)
 
     -- coefficients and error after order i
@@ -156,48 +145,46 @@ module _ (r : List Float) (i : ℕ) (s : Recursion) (h : i < 11) (g : Going r i 
         let m : suc i - 1 ≡ i = omega arith in
         rw (m, l, and-false (inside (reflectionOf r (suc i)))) (and-false (reached r i))
 
-    goes : inside k ≡ true → Going r (suc i) (advanced i k s)
-    unfolding advanced
+    goes : inside k ≡ true → Going r (suc i) (advanced i k s) (raise-best r i best)
+    unfolding advanced raise-best
     goes e =
         let error-i : lessened k (s .error) ≡ after r i .1 = ap (λ (v : List Float × Float). v .1) after-i in
-        record {
-          best = i;
-          went = next-best true (reached-so true e);
+        rw (reached-so true e) (record {
           coefficients = ap (λ (v : List Float × Float). v .0) after-i;
           error = error-i;
           k2-so = second-noted r i k (s .k2) (reached-so true e) k-is (g .k2-so);
           down = λ l. (refl, reached-so true e, rw error-i at l);
           up = λ l. ends (rw error-i at l);
-        }
+        })
 
     -- the test of the reflection
     tested : (b : Bool) → inside k ≡ b →
         Going r (suc i) (cond b (advanced i k s) (record { a = s .a; error = s .error; k2 = s .k2; stopped = true }))
+        (raise-best r i best)
     tested true e = goes e
     tested false e =
         stays (record { a = s .a; error = s .error; k2 = s .k2; stopped = true }) refl refl refl refl (reached-so false e)
 
   -- the test of the flag
-  flag : (b : Bool) → s .stopped ≡ b → Going r (suc i) (cond b s (tried i (reflection r i (s .a) (s .error)) s))
+  flag : (b : Bool) → s .stopped ≡ b →
+      Going r (suc i) (cond b s (tried i (reflection r i (s .a) (s .error)) s)) (raise-best r i best)
   unfolding tried k
   flag true e = stays s refl refl refl e (g .up e)
   flag false e = tested e (inside (k e)) refl
 
-  turn : Going r (suc i) (order r i s)
+  turn : Going r (suc i) (order r i s) (raise-best r i best)
   unfolding order
   turn = flag (s .stopped) refl
 
 -- ---- all turns
 module _ (r : List Float) (h : le (getD r 0 nan) (double 0 1) ≡ false) where
-  last : Going r 11 (flagged r)
-  unfolding flagged
-  last = turns (Going r) 1 11 (order r) (start r) (lit≤ tt) (begun r h) (λ i s l m g. turn r i s m g)
+  last : Going r 11 (flagged r) (highest r)
+  unfolding flagged highest raise-best
+  last = beside (Going r) 1 11 (order r) (raise-best r) (start r) 0 (lit≤ tt) (begun r h) (λ i s best l m. turn r i s best)
 
   pub flagged-coefficients : flagged r .a ≡ levinson r
-  unfolding levinson highest raise-best
-  flagged-coefficients =
-      last .coefficients
-      ∙ ap (λ (n : ℕ). after r n .0) (went-all 1 11 (raise-best r) 0 11 (last .best) (lit≤ tt) (last .went))
+  unfolding levinson
+  flagged-coefficients = last .coefficients
 
   pub flagged-second : flagged r .k2 ≡ second r
   flagged-second = last .k2-so .late (lit≤ tt)

@@ -5,9 +5,8 @@
 use mathlib.Core.Path.{_≡_, refl, sym, ap, _∙_}
 use mathlib.Core.Bool.{Bool, true, false, cond, _&&_, _||_}
 use mathlib.Core.List.{List, [], _∷_, _++_, map, append-nil}
-use Prim.Native.Nat.{ℕ, suc, _+_, _-_, _≤_, _<_, zero-le}
+use Prim.Native.Nat.{ℕ, _+_, _-_, _≤_, _<_, zero-le}
 use native.Mathlib.Nat.{not-suc-le-zero}
-use native.Mathlib.Numerals.{add-one}
 use native.Mathlib.Omega.{arith}
 use borrow.Author.Tests.{ltb-true}
 use lib.Dec.{ltb, lit≤}
@@ -17,9 +16,9 @@ use lib.Seq.{getD-at, getD-set-same, getD-set-other}
 use Rattle.float.specs.Table.{table}
 use Rattle.float.specs.Narrow.{narrow}
 use Rattle.float.specs.Double.{_⊠_, double}
-use Rattle.float.proofs.Loop.{Went, went-none, went-more, went-all, one-more}
+use Rattle.float.proofs.Loop.{one-more}
 use Rattle.float.proofs.Table.{same-table, map-table}
-use Rattle.float.proofs.Turns.{turns}
+use Rattle.float.proofs.Turns.{beside}
 use Rattle.roots.specs.declared.Crossings.{Crossings}
 use Rattle.roots.specs.Root.{point, rootBetween, recorded, walked, rootsOf}
 use Rattle.roots.specs.inner.Scan.{there, met, noted, scanned, noCrossings, crossings, rootIn, rootsIn}
@@ -100,26 +99,10 @@ module _ (c : List Float) (i : ℕ) (s : Crossings) (found : List Float) (r : No
   turn = rw (r .count) (full (ltb (s .count) 5) refl)
 
 -- ---- all turns
-record Beside (c : List Float) (i : ℕ) (s : Crossings) : Type 0 where
-  pub found : List Float
-  pub went : Went 1 1025 (walked c) [] i found
-  pub noted-so : Noted c s found
-
 all-turns : (c : List Float) → Noted c (crossings c) (rootsOf c)
 unfolding crossings rootsOf
 all-turns c =
-    let last = turns (Beside c) 1 1025 (scanned c) noCrossings (lit≤ tt) start next in
-    rw (went-all 1 1025 (walked c) [] 1025 (last .found) (lit≤ tt) (last .went)) at (last .noted-so)
-  where
-    start : Beside c 1 noCrossings
-    start = record { found = []; went = went-none 1 1025 (walked c) [] (lit≤ tt); noted-so = none c }
-
-    next : (i : ℕ) (s : Crossings) → 1 ≤ i → i < 1025 → Beside c i s → Beside c (suc i) (scanned c i s)
-    next i s l h b = record {
-      found = walked c i (b .found);
-      went = rw add-one at (went-more 1 1025 (walked c) [] i (b .found) (walked c i (b .found)) h refl (b .went));
-      noted-so = turn c i s (b .found) (b .noted-so);
-    }
+    beside (λ i. Noted c) 1 1025 (scanned c) (walked c) noCrossings [] (lit≤ tt) (none c) (λ i s found l h. turn c i s found)
 
 pub scan-counts : (c : List Float) → length (rootsOf c) ≡ crossings c .count
 scan-counts c = all-turns c .count

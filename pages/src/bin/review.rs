@@ -2,7 +2,7 @@
 
 use pages::args::{fail, top, Args};
 use pages::declared::declares;
-use pages::{crates, quoted, read};
+use pages::{crates, edits_of, pages_of, quoted, read};
 use std::collections::{BTreeMap, BTreeSet};
 use std::fs;
 use std::path::{Path, PathBuf};
@@ -91,11 +91,8 @@ fn main() {
 
 /// Checks the names on README.md and on the pages of docs/ but one; answers how many are not there.
 fn other_pages(top: &Path, but: &Path) -> u32 {
-    let mut pages = vec![top.join("README.md")];
-    let listed = fs::read_dir(top.join("docs")).unwrap_or_else(|e| fail(&format!("docs: {e}")));
-    pages.extend(listed.filter_map(|entry| Some(entry.ok()?.path())));
-    pages.retain(|page| page != but && page.extension().is_some_and(|e| e == "md"));
-    pages.sort();
+    let mut pages = pages_of(top);
+    pages.retain(|page| page != but);
     let (mut faults, mut names) = (0, 0);
     for page in &pages {
         for (i, line) in read(page).lines().enumerate() {
@@ -149,20 +146,13 @@ fn is_edit(name: &str) -> bool {
     name.split_once(':').is_some_and(|(of, edit)| word(of) && word(edit))
 }
 
-/// Every crates/CRATE/must-fail/EDIT.edit, as CRATE:EDIT.
+/// Every edit, as CRATE:EDIT.
 fn edits_there(top: &Path) -> std::io::Result<BTreeSet<String>> {
-    let mut all = BTreeSet::new();
-    for of in fs::read_dir(top.join("crates"))? {
-        let of = of?;
-        let Ok(listed) = fs::read_dir(of.path().join("must-fail")) else { continue };
-        for edit in listed {
-            let name = edit?.file_name();
-            if let Some(name) = name.to_string_lossy().strip_suffix(".edit") {
-                all.insert(format!("{}:{name}", of.file_name().to_string_lossy()));
-            }
-        }
-    }
-    Ok(all)
+    let name = |path: &Path| {
+        let of = path.parent()?.parent()?.file_name()?.to_str()?;
+        Some(format!("{of}:{}", path.file_stem()?.to_str()?))
+    };
+    Ok(edits_of(top)?.iter().filter_map(|path| name(path)).collect())
 }
 
 /// The names in backquotes that are paths.
