@@ -55,7 +55,7 @@ enum {
     G7231_PLACE = 3,       /* a place with too few samples around it */
     G7231_LAG = 4,         /* a lag out of range */
     G7231_NOT_FINITE = 5,  /* an infinity or a NaN */
-    G7231_MAGNITUDE = 6,   /* a number too large */
+    G7231_MAGNITUDE = 6,   /* a number out of range */
     G7231_NO_LINE_SET = 7  /* the filter has no set of ten line frequencies */
 };
 

@@ -108,7 +108,7 @@ pub fn to_lpc() -> bool {
     (refused == 5) & kept & (done == 0) & same
 }
 
-// A filter of a one and ten zeros has its roots evenly on both sides; one of ten ones has no line set.
+// Of eleven ones both sides have the same roots, so that the ten cosines do not fall strictly.
 pub fn of_lpc() -> bool {
     let given = buffers::filter();
     let none = [1.0f32; 11];
