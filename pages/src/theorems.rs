@@ -38,15 +38,27 @@ pub fn check(page: &str, others: &[(String, String)], source: &dyn Fn(&str) -> O
     if all.len() != stated.len() {
         said.faults.push(format!("{PAGE} states something twice"));
     }
+    let (listed, mut used) = (listed(page), BTreeSet::new());
     for (path, one) in &stated {
         match one.kind {
             Kind::Theorem => said.theorems += 1,
             Kind::Definition | Kind::Type => said.definitions += 1,
         }
-        if let Some(file) = files.get(path.as_str()) {
-            let held = hold(path, one, file, &all);
-            said.faults.extend(held.err().map(|what| format!("{path}#{}: {what}", one.name)));
+        let Some(file) = files.get(path.as_str()) else { continue };
+        let mut wrong = |what: String| said.faults.push(format!("{path}#{}: {what}", one.name));
+        if let Err(what) = hold(one, file) {
+            wrong(what);
         }
+        for meant in spoken(path, one, file).into_iter().filter(|meant| !all.contains(meant)) {
+            match meant.contains("/specs/") {
+                true if listed.contains(&meant) => drop(used.insert(meant)),
+                true => wrong(format!("it speaks of {meant}, which the table of {PAGE} does not list")),
+                false => wrong(format!("it speaks of {meant}, which {PAGE} does not state")),
+            }
+        }
+    }
+    for name in listed.difference(&used) {
+        said.faults.push(format!("{PAGE} lists {name}, and no statement speaks of it"));
     }
     if said.theorems == 0 {
         said.faults.push(format!("{PAGE} states no theorem"));
@@ -99,7 +111,7 @@ fn stated(page: &str) -> Result<Vec<(String, Declaration)>, String> {
 }
 
 /// Holds one declaration of the page to its file.
-fn hold(path: &str, one: &Declaration, file: &File, stated: &BTreeSet<String>) -> Result<(), String> {
+fn hold(one: &Declaration, file: &File) -> Result<(), String> {
     let found: Vec<&Declaration> = file.declarations.iter().filter(|other| other.name == one.name).collect();
     let [found] = found[..] else {
         return Err(format!("it is declared {} times, and once is wanted", found.len()));
@@ -124,14 +136,27 @@ fn hold(path: &str, one: &Declaration, file: &File, stated: &BTreeSet<String>) -
         }
         _ => {}
     }
-    // what a theorem speaks of is a definition, or stands on the page
-    let texts = one.given.iter().chain([&one.statement]).chain(&one.equations);
-    for name in texts.flat_map(|text| names(text)).filter(|name| *name != one.name) {
-        let own = || file.declarations.iter().any(|other| other.name == name).then(|| format!("{path}#{name}"));
-        let Some(meant) = file.meaning(name).or_else(own) else { continue };
-        if meant.starts_with("crates/") && !meant.contains("/specs/") && !stated.contains(&meant) {
-            return Err(format!("it speaks of {meant}, which {PAGE} does not state"));
-        }
-    }
     Ok(())
+}
+
+/// What a declaration speaks of in this repository, by file and name. The structs of the code, in specs/declared, are not among it: the
+/// kit makes those files.
+fn spoken(path: &str, one: &Declaration, file: &File) -> BTreeSet<String> {
+    let texts = one.given.iter().chain([&one.statement]).chain(&one.equations);
+    let meant = texts.flat_map(|text| names(text)).filter(|name| *name != one.name).filter_map(|name| {
+        let own = || file.declarations.iter().any(|other| other.name == name).then(|| format!("{path}#{name}"));
+        file.meaning(name).or_else(own)
+    });
+    meant.filter(|meant| meant.starts_with("crates/") && !meant.contains("/specs/declared/")).collect()
+}
+
+/// The definitions that the page lists: rows with a path and names, each in backquotes.
+fn listed(page: &str) -> BTreeSet<String> {
+    let mut all = BTreeSet::new();
+    for line in page.lines().filter(|line| line.starts_with("| `crates/")) {
+        let mut words = quoted(line);
+        let path = words.next().unwrap_or("");
+        all.extend(words.map(|name| format!("{path}#{name}")));
+    }
+    all
 }

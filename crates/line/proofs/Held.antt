@@ -1,5 +1,5 @@
--- A set that the line holds: ten values, each finite and within 16,384 of its resting one. The resting set is one; the decoder makes one of one, with any rows whose
--- numbers are small; neither end refuses one. Two that are decoded alike come closer. Assumes nothing.
+-- A set that the line holds: ten values, each finite and within 16,384 of its resting one. The resting set is one; the decoder makes one
+-- of one, with any rows whose numbers are small; neither end refuses one. Two that are decoded alike come closer. Assumes nothing.
 use mathlib.Core.Path.{_≡_, refl, sym, ap, _∙_, subst}
 use mathlib.Core.Bool.{Bool, true, false, not}
 use mathlib.Core.Logic.{_⊎_, inl, inr}
@@ -133,16 +133,23 @@ pub held-decoded : (rows : List ℤ) → T (rowsPass rows) → (index : ℕ) (pr
     Held (decoded rows index prev)
 held-decoded rows R index prev p = record {
   long = length-decoded rows index prev;
-  each = λ i h. subst (λ (x : Float). Inside u (number dcFreq i) x) (sym (at-decoded rows index prev i h)) (step-inside (at prev i) (number dcFreq i) (number (rowNumbers rows index) i) (p .each i h) (rests i) (rows-small rows R index i));
+  each = λ i h.
+      subst (λ (x : Float). Inside u (number dcFreq i) x) (sym (at-decoded rows index prev i h))
+      (step-inside (at prev i) (number dcFreq i) (number (rowNumbers rows index) i) (p .each i h) (rests i) (rows-small rows R index i));
 }
 
 pub decoded-shrinks : (rows : List ℤ) → T (rowsPass rows) → (index : ℕ) (x y : List Float) → Held x → Held y →
     (i : ℕ) → i < 10 →
-    8 * difference (at (decoded rows index x) i) (at (decoded rows index y) i) + 3 * (32 * u) ≤ 3 * difference (at x i) (at y i) + 8 * (32 * u)
+    8 * difference (at (decoded rows index x) i) (at (decoded rows index y) i) + 3 * (32 * u)
+    ≤ 3 * difference (at x i) (at y i) + 8 * (32 * u)
 decoded-shrinks rows R index x y p q i h =
-    subst (λ (z : Float). 8 * difference z (at (decoded rows index y) i) + 3 * (32 * u) ≤ 3 * difference (at x i) (at y i) + 8 * (32 * u)) (sym (at-decoded rows index x i h))
-    (subst (λ (w : Float). 8 * difference (rebuilt (at x i) (number dcFreq i) (number (rowNumbers rows index) i)) w + 3 * (32 * u) ≤ 3 * difference (at x i) (at y i) + 8 * (32 * u)) (sym (at-decoded rows index y i h))
-    (step-shrinks (at x i) (at y i) (number dcFreq i) (number (rowNumbers rows index) i) (p .each i h) (q .each i h) (rests i) (rows-small rows R index i)))
+    let dc = number dcFreq i in
+    let row = number (rowNumbers rows index) i in
+    let most = 3 * difference (at x i) (at y i) + 8 * (32 * u) in
+    let one = step-shrinks (at x i) (at y i) dc row (p .each i h) (q .each i h) (rests i) (rows-small rows R index i) in
+    let two =
+    subst (λ (w : Float). 8 * difference (rebuilt (at x i) dc row) w + 3 * (32 * u) ≤ most) (sym (at-decoded rows index y i h)) one in
+    subst (λ (z : Float). 8 * difference z (at (decoded rows index y) i) + 3 * (32 * u) ≤ most) (sym (at-decoded rows index x i h)) two
 
 -- ---- neither end refuses it
 pub held-finite : (set : List Float) → Held set → all finite set ≡ true
@@ -167,7 +174,9 @@ held-bounded set p =
     ap not
     (is-true (all (λ x. not (exceeds (single 65536 1) x)) set)
     (all-each (λ x. not (exceeds (single 65536 1) x)) set nan
-    (λ i h. let l : i < 10 = subst (λ (n : ℕ). i < n) (p .long) h in subst (λ (b : Bool). T (not b)) (sym (no-excess (number dcFreq i) (at set i) (rests i) (p .each i l))) tt)))
+    (λ i h.
+    let l : i < 10 = subst (λ (n : ℕ). i < n) (p .long) h in
+    subst (λ (b : Bool). T (not b)) (sym (no-excess (number dcFreq i) (at set i) (rests i) (p .each i l))) tt)))
 
 -- ---- what the claim says of it
 near-resting : (dc x : Float) → Inside u dc x → Near x dc
@@ -175,7 +184,10 @@ unfolding difference
 near-resting dc x i = record {
   single = i .good .fit;
   finite = i .good .fin?;
-  within = apart-most (plus x + less dc) (plus dc + less x) (33554432 * u) (le-trans (i .above) (le-of-eq (swap (less x) (plus dc) (33554432 * u)))) (le-trans (le-of-eq (back (plus dc) (less x))) (i .below));
+  within =
+      apart-most (plus x + less dc) (plus dc + less x) (33554432 * u)
+      (le-trans (i .above) (le-of-eq (swap (less x) (plus dc) (33554432 * u))))
+      (le-trans (le-of-eq (back (plus dc) (less x))) (i .below));
 }
   where
     swap : (a b k : ℕ) → a + b + k ≡ b + a + k

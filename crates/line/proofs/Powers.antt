@@ -1,5 +1,5 @@
--- The powers of 3/8 that a row of arrivals leaves of a difference. The demanded bound does not go through by induction; the stronger one with 3^n × C on the left
--- does. C is any number here. Assumes nothing.
+-- The powers of 3/8 that a row of arrivals leaves of a difference. The demanded bound does not go through by induction; the stronger one
+-- with 3^n × C on the left does. C is any number here. Assumes nothing.
 use mathlib.Core.Path.{_≡_, sym, ap, _∙_, subst}
 use Prim.Native.Nat.{ℕ, zero, suc, _+_, _-_, _*_, _^_, _≤_, _<_}
 use native.Mathlib.Nat.{le-trans, le-of-eq, mul-assoc, mul-left-comm, mul-add, mul-le-mul-left, mul-le-mul-right, le-of-mul-le-mul-left, pow-succ'}
@@ -9,6 +9,10 @@ use lib.Dec.{lit≤, lit<}
 -- no arrival
 pub none : (d D C : ℕ) → d ≤ D → 8 ^ 0 * d + 3 ^ 0 * C ≤ 3 ^ 0 * D + 8 ^ 0 * C
 none d D C h = omega arith
+
+through : (k a x b y : ℕ) → k * (a * x + b * y) ≡ a * (k * x) + b * (k * y)
+through k a x b y =
+    mul-add k (a * x) (b * y) ∙ ap (λ (z : ℕ). z + k * (b * y)) (mul-left-comm k a x) ∙ ap (λ (z : ℕ). a * (k * x) + z) (mul-left-comm k b y)
 
 -- an arrival, and then n more
 pub more : (n d e D C : ℕ) → 8 * e + 3 * C ≤ 3 * D + 8 * C → 8 ^ n * d + 3 ^ n * C ≤ 3 ^ n * e + 8 ^ n * C →
@@ -20,8 +24,8 @@ more n d e D C h k =
     let q : 8 ^ suc n * C ≡ 8 * (A * C) = ap (λ (x : ℕ). x * C) (pow-succ' 8 n) ∙ mul-assoc 8 A C in
     let r : 3 ^ suc n * C ≡ 3 * (B * C) = ap (λ (x : ℕ). x * C) (pow-succ' 3 n) ∙ mul-assoc 3 B C in
     let s : 3 ^ suc n * D ≡ 3 * (B * D) = ap (λ (x : ℕ). x * D) (pow-succ' 3 n) ∙ mul-assoc 3 B D in
-    let l : B * (8 * e + 3 * C) ≡ 8 * (B * e) + 3 * (B * C) = mul-add B (8 * e) (3 * C) ∙ ap (λ (x : ℕ). x + B * (3 * C)) (mul-left-comm B 8 e) ∙ ap (λ (x : ℕ). 8 * (B * e) + x) (mul-left-comm B 3 C) in
-    let m : B * (3 * D + 8 * C) ≡ 3 * (B * D) + 8 * (B * C) = mul-add B (3 * D) (8 * C) ∙ ap (λ (x : ℕ). x + B * (8 * C)) (mul-left-comm B 3 D) ∙ ap (λ (x : ℕ). 3 * (B * D) + x) (mul-left-comm B 8 C) in
+    let l = through B 8 e 3 C in
+    let m = through B 3 D 8 C in
     let t : B * (8 * e + 3 * C) ≤ B * (3 * D + 8 * C) = mul-le-mul-left B h in
     omega arith
 

@@ -1,5 +1,6 @@
--- A turn of the line between a coder with any rows and any choice of an index, and the decoder with the same rows: both ends go on holding sets, and no set is refused.
--- Then runs of turns: equal ends stay equal while no index is lost, and other ends come closer with each arrival. Assumes nothing.
+-- A turn of the line between a coder with any rows and any choice of an index, and the decoder with the same rows: both ends go on holding
+-- sets, and no set is refused. Then runs of turns: equal ends stay equal while no index is lost, and other ends come closer with each
+-- arrival. Assumes nothing.
 use mathlib.Core.Path.{_≡_, refl, sym, ap, _∙_, subst}
 use mathlib.Core.Bool.{Bool, true, false, not, _&&_, cond}
 use mathlib.Core.List.{List, [], _∷_}
@@ -40,7 +41,10 @@ module _ (rows : List ℤ) (R : T (rowsPass rows)) (choice : List Float → List
 
   -- what is sent and brought changes both sets alike
   abbrev after : Ends → Turn → Bool → Ends
-  after ends t brought = record { coder = decoded rows (index ends t) (ends .coder); decoder = cond brought (decoded rows (index ends t) (ends .decoder)) (ends .decoder) }
+  after ends t brought = record {
+    coder = decoded rows (index ends t) (ends .coder);
+    decoder = cond brought (decoded rows (index ends t) (ends .decoder)) (ends .decoder);
+  }
 
   abbrev next : Ends → Turn → Ends
   next = step (quantiseBy rows choice) (decodeLspFreq rows)
@@ -67,7 +71,9 @@ module _ (rows : List ℤ) (R : T (rowsPass rows)) (choice : List Float → List
       go true h = subst P (sym (sent ends t b h)) (g h)
 
   pub kept : (ends : Ends) (t : Turn) → Both ends → Both (next ends t)
-  kept ends t b = each-turn Both ends t b (λ h. b) (λ h. record { coder = held-decoded rows R (index ends t) (ends .coder) (b .coder); decoder = either (t .brings) })
+  kept ends t b =
+      each-turn Both ends t b (λ h. b)
+      (λ h. record { coder = held-decoded rows R (index ends t) (ends .coder) (b .coder); decoder = either (t .brings) })
     where
       either : (brought : Bool) → Held (cond brought (decoded rows (index ends t) (ends .decoder)) (ends .decoder))
       either true = held-decoded rows R (index ends t) (ends .decoder) (b .decoder)
@@ -113,7 +119,9 @@ module _ (rows : List ℤ) (R : T (rowsPass rows)) (choice : List Float → List
       let n = no-loss ends t ts l in
       equal-run (next ends t) ts (kept ends t b) (n .1)
       (each-turn (λ (x : Ends). x .coder ≡ x .decoder) ends t b (λ h. e)
-      (λ h. subst (λ (v : Bool). decoded rows (index ends t) (ends .coder) ≡ cond v (decoded rows (index ends t) (ends .decoder)) (ends .decoder)) (sym (brought (sends (quantiseBy rows choice) ends t) (t .brings) (n .0) h)) (ap (decoded rows (index ends t)) e)))
+      (λ h.
+      let comes : t .brings ≡ true = brought (sends (quantiseBy rows choice) ends t) (t .brings) (n .0) h in
+      subst (λ (v : Bool). after ends t v .coder ≡ after ends t v .decoder) (sym comes) (ap (decoded rows (index ends t)) e)))
 
   -- ---- arrivals bring the ends closer
   abbrev apart : Ends → ℕ → ℕ
@@ -162,10 +170,14 @@ module _ (rows : List ℤ) (R : T (rowsPass rows)) (choice : List Float → List
       go true e =
           let br : t .brings ≡ true = brought (sends (quantiseBy rows choice) ends t) (t .brings) l e in
           let is : next ends t ≡ after ends t true = sent ends t b e ∙ ap (after ends t) br in
-          let one : 8 * apart (after ends t true) i + 3 * (32 * u) ≤ 3 * apart ends i + 8 * (32 * u) = decoded-shrinks rows R (index ends t) (ends .coder) (ends .decoder) (b .coder) (b .decoder) i h in
-          let two : 8 * apart (next ends t) i + 3 * (32 * u) ≤ 3 * D + 8 * (32 * u) = subst (λ (x : Ends). 8 * apart x i + 3 * (32 * u) ≤ 3 * D + 8 * (32 * u)) (sym is) (wider (8 * apart (after ends t true) i + 3 * (32 * u)) (apart ends i) D (8 * (32 * u)) d one) in
+          let one : 8 * apart (after ends t true) i + 3 * (32 * u) ≤ 3 * apart ends i + 8 * (32 * u) =
+          decoded-shrinks rows R (index ends t) (ends .coder) (ends .decoder) (b .coder) (b .decoder) i h in
+          let two : 8 * apart (next ends t) i + 3 * (32 * u) ≤ 3 * D + 8 * (32 * u) =
+          subst (λ (x : Ends). 8 * apart x i + 3 * (32 * u) ≤ 3 * D + 8 * (32 * u)) (sym is)
+          (wider (8 * apart (after ends t true) i + 3 * (32 * u)) (apart ends i) D (8 * (32 * u)) d one) in
           subst (λ (m : ℕ). Bounded m (apart (runs (next ends t) ts) i) D) (sym (counted ends t ts (ap (λ (s : Bool). s && t .brings) e ∙ br)))
-          (more (count (next ends t) ts) (apart (runs (next ends t) ts) i) (apart (next ends t) i) D (32 * u) two (rest (apart (next ends t) i) (le-refl (apart (next ends t) i))))
+          (more (count (next ends t) ts) (apart (runs (next ends t) ts) i) (apart (next ends t) i) D (32 * u) two
+          (rest (apart (next ends t) i) (le-refl (apart (next ends t) i))))
 
   pub closer-run : (ends : Ends) (ts : List Turn) → Both ends →
       losses (quantiseBy rows choice) (decodeLspFreq rows) ends ts ≡ 0 → (i : ℕ) → i < 10 → (D : ℕ) →

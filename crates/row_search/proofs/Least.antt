@@ -1,5 +1,5 @@
--- What the search finds, for any errors, infinities and NaN among them: no row's error is smaller than that of the row found, none before it has an error
--- that is no larger, and it is one of the rows. Assumes nothing.
+-- What the search finds, for any errors, infinities and NaN among them: no row's error is smaller than that of the row found, none before
+-- it has an error that is no larger, and it is one of the rows. Assumes nothing.
 use mathlib.Core.Path.{_≡_, refl, subst}
 use mathlib.Core.Logic.{_⊎_, inl, inr}
 use mathlib.Core.Bool.{Bool, true, false, cond}
@@ -24,7 +24,9 @@ step : (error : ℕ → Float) (n : ℕ) (found : Float × ℕ) (b : Bool) → l
 step error n found true h r =
     let t : T (lt (error n) (found .0)) = rw h tt in
     record {
-      none-smaller = one-more (λ (k : ℕ). T (lt (error k) (error n)) → ⊥) n (λ k l s. r .none-smaller k l (lt-trans-any (error k) (error n) (found .0) s t)) (lt-self (error n));
+      none-smaller =
+          one-more (λ (k : ℕ). T (lt (error k) (error n)) → ⊥) n
+          (λ k l s. r .none-smaller k l (lt-trans-any (error k) (error n) (found .0) s t)) (lt-self (error n));
       none-before = λ k l s. r .none-smaller k l (le-lt-trans (error k) (error n) (found .0) s t);
       is = inl refl;
       one = inr (omega arith);

@@ -1,4 +1,5 @@
--- The row that a band takes is one of its 256, none of them has a smaller error, and none before it one as small: the search's laws at the bands. Assumes nothing.
+-- The row that a band takes is one of its 256, none of them has a smaller error, and none before it one as small: the search's laws at
+-- the bands. Assumes nothing.
 use Prim.Native.Nat.{ℕ, _<_}
 use mathlib.Core.List.{List}
 use lib.Dec.{T, lit<}

@@ -1,4 +1,5 @@
--- What the decoder and the quantiser answer where no refusal is due, and that the decoder gives back the quantiser's set. Assumes nothing.
+-- What the decoder and the quantiser answer where no refusal is due, and that the decoder gives back the quantiser's set.
+-- Assumes nothing.
 use mathlib.Core.Path.{_≡_, refl}
 use mathlib.Core.Bool.{true, false}
 use mathlib.Core.List.{List}
@@ -31,7 +32,9 @@ module _ (rows : List ℤ) (choice : List Float → List Float → ℕ) (p prev 
   not-refused-here : quantiseBy rows choice p prev .status ≡ 0 →
       (first (quantiseRefusals p prev) ≡ 0) × (quantiseBy rows choice p prev ≡ quantisedAs rows (choice p prev) prev)
   unfolding quantiseBy
-  not-refused-here h = not-refused (λ (q : Quantised). q .status) (first (quantiseRefusals p prev)) refusedIndex (quantisedAs rows (choice p prev) prev) (λ k. refl) h
+  not-refused-here h =
+      not-refused (λ (q : Quantised). q .status) (first (quantiseRefusals p prev)) refusedIndex (quantisedAs rows (choice p prev) prev)
+      (λ k. refl) h
 
   pub quantised-set : quantiseBy rows choice p prev .status ≡ 0 →
       quantiseBy rows choice p prev ≡ quantisedAs rows (choice p prev) prev

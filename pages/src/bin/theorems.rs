@@ -12,8 +12,8 @@ theorems: check that every theorem that the pages name says what docs/THEOREMS.m
 
 On docs/THEOREMS.md a block marked antt has a comment with a path, and below it declarations of that file: a theorem by its statement,
 a definition with its equations, a record or a data type whole, each within the modules that stand around it. Each must be
-the source's own, word by word; line ends, comments and `pub` do not count. What a statement speaks of must be a definition of
-some crate's specs/, or stand on the page itself. Every name of a file of proofs on README.md and the other pages of docs/, as
+the source's own, word by word; line ends, comments and `pub` do not count. What a statement speaks of must be stated on the page too, or be
+a definition of some crate's specs/ that the page's table lists, by file and name, as the source imports it. Every name of a file of proofs on README.md and the other pages of docs/, as
 `crates/line/proofs/Rejoin.antt#line`, must be stated there, and so must what a must-fail edit names in its line `shown:`; the proof that a
 function meets its contract, in a Proof.antt, need not.
 
