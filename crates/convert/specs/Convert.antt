@@ -1,5 +1,5 @@
--- Ten frequencies to cosines, and ten cosines to frequencies.
--- §2.6 of the Recommendation; document 01, B20 to B22, B34 and B35. Assumes nothing.
+-- Ten frequencies to cosines, as §2.6 goes on from them, and ten cosines to frequencies, as §2.5 needs them; the Rust names no equation
+-- for either. The refusals and the cosine rule are added by design. Document 01, B20 to B22, B34 and B35. Assumes nothing.
 use mathlib.Core.List.{List, [], _∷_, map}
 use lib.Ieee.{Float}
 use Rattle.float.specs.Refusal.{first, answer}
