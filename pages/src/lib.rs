@@ -52,3 +52,11 @@ pub fn crates(top: &Path) -> Vec<String> {
 pub fn quoted(text: &str) -> impl Iterator<Item = &str> {
     text.lines().flat_map(|line| line.split('`').skip(1).step_by(2))
 }
+
+/// For a test: each of some texts as it is, but for one that has one place altered.
+#[cfg(test)]
+fn altering<'a>(text: &'a str, old: &str, new: &str) -> impl Fn(&str) -> String + 'a {
+    assert_eq!(text.matches(old).count(), 1, "{old}");
+    let altered = text.replace(old, new);
+    move |one| if one == text { altered.clone() } else { one.to_string() }
+}

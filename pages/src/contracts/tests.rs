@@ -1,6 +1,7 @@
 //! A sample holds; altered in one place, it is found out. So is the repository with any one `ensures` left out.
 
 use super::*;
+use crate::altering;
 use crate::args::top;
 
 const SAMPLE: &str = "
@@ -91,9 +92,7 @@ fn faults(page: &str, table: &str, operations: &str, doors: &str) -> Vec<String>
 
 /// Alters one place of one of the texts, and looks for words in what is then said.
 fn found(text: &str, old: &str, new: &str, words: &str) {
-    assert_eq!(text.matches(old).count(), 1, "{old}");
-    let altered = text.replace(old, new);
-    let with = |one: &str| if one == text { altered.clone() } else { one.to_string() };
+    let with = altering(text, old, new);
     let said = faults(&with(SAMPLE), &with(TABLE), &with(OPERATIONS), &with(DOORS));
     assert!(said.iter().any(|fault| fault.contains(words)), "{old} -> {new}: {said:?}");
 }
