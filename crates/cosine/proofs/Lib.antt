@@ -5,6 +5,9 @@ pub mod Monotone
 pub mod Least
 pub mod Held
 pub mod Whole
+pub mod Nearest
+pub mod Back
+pub mod Halfway
 mod Halving
 mod Segment
 mod Below

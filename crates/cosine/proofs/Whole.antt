@@ -1,4 +1,4 @@
--- |x| × 2^46 rounded down, as the code cuts it, and the two steps read off it. Assumes nothing.
+-- |x| × 2^46 rounded down, as the code cuts it. Assumes nothing.
 use mathlib.Core.Path.{_≡_, refl, sym, ap, _∙_, subst}
 use mathlib.Core.Bool.{Bool, true, false, not, _&&_}
 use Prim.Native.Nat.{ℕ, zero, suc, _+_, _*_, _/_, _%_, _^_, _≤_, _<_}
@@ -18,11 +18,9 @@ use Rattle.float.proofs.Product.{mul-value}
 use Rattle.float.proofs.Floor.{floor-whole, floor-div, floor-same}
 use Rattle.float.proofs.Dyadic.{scaled-exact}
 use Rattle.float.proofs.Truncate.{above-minus-one, below-word, whole-part}
-use Rattle.cosine.specs.Step.{stepOfFrequency}
-use Rattle.cosine.specs.Angle.{stepOfAngle}
 
 -- ---- what fits has few digits and no small exponent
-few : (f : Format) (s : Bool) (m : ℕ) (e : ℤ) → T (fits f (fin s m e)) → (m < 2 ^ prec f) × (down e ≤ 2 ^ low f)
+pub few : (f : Format) (s : Bool) (m : ℕ) (e : ℤ) → T (fits f (fin s m e)) → (m < 2 ^ prec f) × (down e ≤ 2 ^ low f)
 unfolding fits
 few f s zero e h =
     (pow-pos (prec f), le-trans (unit (up e) (down e) (lib.Ieee.Fits.up-pos e) (lib.Dec.eqb→eq (up e * down e) 1 h)) (pow-pos (low f)))
@@ -184,14 +182,6 @@ flat (fin s m e) f h j k =
     let none : m * up e * 2 ^ 46 ≡ 0 = neither (up46 (fin s m e)) s (m * up e * 2 ^ 46) (down e) (down-pos e) v j k in
     sym (ap (λ (n : ℕ). n / (down e * 1)) none ∙ zero-div (down e * 1))
 
--- ---- the steps read off it
+-- ---- in units of a blend
 pub sixteenth : (x : Float) → floor (2 ^ 46) 1 x / 16 ≡ floor (2 ^ 42) 1 x
 sixteenth x = floor-div (2 ^ 46) 1 16 x ∙ floor-same (2 ^ 46) (1 * 16) (2 ^ 42) 1 x (lit< tt) (lit< tt) refl
-
-pub frequency-step : (x : Float) → floor (2 ^ 46) 1 x / 2 ^ 37 ≡ stepOfFrequency x
-unfolding stepOfFrequency
-frequency-step x = floor-div (2 ^ 46) 1 (2 ^ 37) x ∙ floor-same (2 ^ 46) (1 * 2 ^ 37) 512 1 x (lit< tt) (lit< tt) refl
-
-pub angle-step : (x : Float) → floor (2 ^ 46) 1 x / 13176795 ≡ stepOfAngle x
-unfolding stepOfAngle
-angle-step x = floor-div (2 ^ 46) 1 13176795 x

@@ -1,11 +1,12 @@
 -- Step of a cosine and step of a frequency, and the frequency of a step.
--- Added by design: the cosine rule, in place of an arc cosine and a cosine. Document 01, C6, B20, B21 and B34. Assumes nothing.
+-- Added by design: the cosine rule, in place of an arc cosine and a cosine. Document 01, C6, B20, B21 and B34, and
+-- document 02, E1. Assumes nothing.
 use mathlib.Core.Bool.{Bool, cond}
 use Prim.Native.Nat.{ℕ, zero, suc, _+_, _^_, _≤_, _<_}
 use lib.Dec.{T}
 use lib.Ieee.{Float, lt, le, neg}
 use Rattle.float.specs.Single.{single}
-use Rattle.float.specs.Floor.{floor}
+use Rattle.float.specs.Nearest.{nearestWhole}
 use Rattle.cosine.specs.Cosine.{cosine}
 
 -- ---- of a cosine
@@ -35,9 +36,9 @@ step c = cond (reached c 0) 0 (above 24 (reached c) 0)
 
 -- ---- of a frequency
 
--- the greatest whole number ≤ 512 × |f|
+-- the whole number nearest to 512 × |f|, a half going to the even one
 unfoldable pub stepOfFrequency : Float → ℕ
-stepOfFrequency f = floor 512 1 f
+stepOfFrequency f = nearestWhole 512 1 f
 
 -- a step as a frequency: k / 512
 unfoldable pub frequency : ℕ → Float

@@ -16,33 +16,16 @@ use lib.Ieee.Fits.{round-is, round-fits, nearest-le, kept-lt}
 use lib.Ieee.Nearest.{closest}
 use lib.Ieee.Scale.{overflow}
 use lib.Ieee.Order.{drop, kept}
-use Rattle.float.proofs.Compare.{Cmp, cmp}
+use Rattle.float.proofs.Nearest.{closest-nearest}
 
 -- ---- the nearest whole number is half of one away at most
 abbrev Half : ℕ → ℕ → ℕ → Type 0
 Half x n u = (2 * x ≤ 2 * n + u) × (2 * n ≤ 2 * x + u)
 
-half : (q r u n : ℕ) (o : Ordering) → q * u + r ≡ n → r < u → Cmp o (r * 2) u → Half (nearest q o * u) n u
-half q r u n Ordering·lt e h c = (omega arith, omega arith)
-half q r u n Ordering·eq e h c = tie (q % 2) (mod-lt q (omega arith))
-  where
-    tie : (b : ℕ) → b < 2 → Half ((q + b) * u) n u
-    tie zero l =
-        let f : (q + 0) * u ≡ q * u = ap (λ (x : ℕ). x * u) (native.Mathlib.Nat.add-zero q) in
-        (omega arith, omega arith)
-    tie (suc zero) l =
-        let f : (q + 1) * u ≡ q * u + u = add-mul q 1 u ∙ ap (λ (x : ℕ). q * u + x) (one-mul u) in
-        (omega arith, omega arith)
-    tie (suc (suc b)) l = absurd (bad b l)
-      where
-        bad : (b : ℕ) → suc (suc b) < 2 → ⊥
-        bad b l = omega arith
-half q r u n Ordering·gt e h c =
-    let f : suc q * u ≡ q * u + u = suc-mul q u in
-    (omega arith, omega arith)
-
 closest-half : (n u : ℕ) → 0 < u → Half (closest n u * u) n u
-closest-half n u U = half (n / u) (n % u) u n (compare (n % u * 2) u) (div-add-mod' n u) (mod-lt n U) (cmp (n % u * 2) u)
+closest-half n u U =
+    let c = closest-nearest n u U in
+    (c .high, c .low)
 
 -- ---- the rounded value
 pub record Rounding (f : Format) (z : Float) (s : Bool) (w c e : ℕ) : Type 0 where

@@ -32,19 +32,20 @@ floor-div p q k (inf s) = zero-div k
 floor-div p q k (fin s m e) =
     div-div-eq-div-mul (m * up e * p) (down e * q) k ∙ ap (λ (d : ℕ). m * up e * p / d) (mul-assoc (down e) q k)
 
+-- p / q and r / t are one fraction, so n p / (d q) and n r / (d t) are
+pub cross : (p q r t n d : ℕ) → p * t ≡ r * q → n * p * (d * t) ≡ n * r * (d * q)
+cross p q r t n d h =
+    let l : n * p * (d * t) ≡ n * d * (p * t) = simp (mul-assoc, mul-comm, mul-left-comm) in
+    let k : n * r * (d * q) ≡ n * d * (r * q) = simp (mul-assoc, mul-comm, mul-left-comm) in
+    l ∙ ap (λ (z : ℕ). n * d * z) h ∙ sym k
+
 pub floor-same : (p q r t : ℕ) (x : Float) → 0 < q → 0 < t → p * t ≡ r * q → floor p q x ≡ floor r t x
 unfolding floor
 floor-same p q r t nan Q T h = refl
 floor-same p q r t (inf s) Q T h = refl
 floor-same p q r t (fin s m e) Q T h =
     div-same (m * up e * p) (down e * q) (m * up e * r) (down e * t) (mul-pos (down-pos e) Q) (mul-pos (down-pos e) T)
-    (cross (m * up e) (down e))
-  where
-    cross : (n d : ℕ) → n * p * (d * t) ≡ n * r * (d * q)
-    cross n d =
-        let l : n * p * (d * t) ≡ n * d * (p * t) = simp (mul-assoc, mul-comm, mul-left-comm) in
-        let k : n * r * (d * q) ≡ n * d * (r * q) = simp (mul-assoc, mul-comm, mul-left-comm) in
-        l ∙ ap (λ (z : ℕ). n * d * z) h ∙ sym k
+    (cross p q r t (m * up e) (down e) h)
 
 pub floor-le : (p k : ℕ) (x : Float) → exceeds (power k) x ≡ false → floor p 1 x ≤ 2 ^ k * p
 unfolding floor

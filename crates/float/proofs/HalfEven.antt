@@ -14,6 +14,7 @@ use lib.Ieee.Fits.{nearest-le}
 use lib.Ieee.Nearest.{nearest-ge}
 use Rattle.float.specs.inner.HalfEven.{halfEven}
 use Rattle.float.proofs.Compare.{Cmp, cmp}
+use Rattle.float.proofs.Nearest.{closest-none}
 
 -- ---- with the whole part q, the remainder r, and the divisor u, twice h
 quotient : (n q u a : ℕ) → n ≡ q * u + a → a < u → n / u ≡ q
@@ -82,19 +83,7 @@ half-even-ge d q r h = le-trans (le-div-iff-mul-le (pow-pos r) .1 h) (nearest-ge
 
 pub half-even-zero : (d r : ℕ) → d * 2 < 2 ^ r → halfEven d r ≡ 0
 unfolding halfEven
-half-even-zero d r h =
-    let l : d < 2 ^ r = small d (2 ^ r) h in
-    ap (λ (q : ℕ). nearest q (compare (d % 2 ^ r * 2) (2 ^ r))) (div-eq-of-lt l)
-    ∙ ap (λ (x : ℕ). nearest 0 (compare (x * 2) (2 ^ r))) (mod-eq-of-lt l)
-    ∙ go (compare (d * 2) (2 ^ r)) (cmp (d * 2) (2 ^ r))
-  where
-    small : (a b : ℕ) → a * 2 < b → a < b
-    small a b h = omega arith
-
-    go : (o : Ordering) → Cmp o (d * 2) (2 ^ r) → nearest 0 o ≡ 0
-    go Ordering·lt c = refl
-    go Ordering·eq c = refl
-    go Ordering·gt c = absurd (not-le-of-lt h (le-of-lt c))
+half-even-zero d r h = closest-none d (2 ^ r) h
 
 nearest-add : (j q : ℕ) (o : Ordering) → nearest (j * 2 + q) o ≡ j * 2 + nearest q o
 nearest-add j q Ordering·lt = refl

@@ -19,6 +19,7 @@ pub mod Dyadic
 pub mod Truncate
 pub mod Bound
 pub mod Floor
+pub mod Nearest
 pub mod Range
 pub mod HalfEven
 pub mod Units

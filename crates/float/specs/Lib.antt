@@ -11,4 +11,5 @@ pub mod Vector
 pub mod Lines
 pub mod Pattern
 pub mod Floor
+pub mod Nearest
 pub mod Difference

@@ -93,7 +93,7 @@ pub fn refused_lines(status: u32) -> Lines
 }
 
 // d / 2^k to the nearest whole number, a tie to the even one.
-fn half_even(d: u64, k: u64) -> u64
+pub fn half_even(d: u64, k: u64) -> u64
     requires { ⌜ (1 ≤ k) × (k < 64) × (d < 2 ^ 63) ⌝ }
     ensures { λ r. ⌜ r ≡ halfEven d k ⌝ }
 {
