@@ -87,7 +87,8 @@ uint32_t g7231_lpc_to_lsp(const float a[G7231_FILTER], float lsp[G7231_ORDER]);
  *   5 G7231_NOT_FINITE: any of the cosines */
 uint32_t g7231_lsp_cosines_to_freq(const float cosines[G7231_ORDER], float freq[G7231_ORDER]);
 
-/* Ten line frequencies to cosines.
+/* Ten line frequencies to cosines. A frequency takes the nearest of the 2^24 steps of half a circle, a half going to the
+ * even one.
  * Takes:
  *   freq: frequencies
  * Refuses:

@@ -1,14 +1,15 @@
-//! Document 01's cosine rule, step rules, angle rules and gate rule, in whole numbers.
+//! Document 01's cosine rule, step rules, angle rules and gate rule, in whole numbers, with the two roundings that request E1 changes.
 //!
-//! Written from document 01 alone. The quarter table is computed here by interval arithmetic, so that how far an
+//! Written from documents 01 and 02 alone. The quarter table is computed here by interval arithmetic, so that how far an
 //! entry may be off is known and not estimated; nothing is read from the Rattle sources.
 
+use std::cmp::Ordering;
 use std::sync::OnceLock;
 
 /// Steps in half a circle.
 pub const HALF_CIRCLE: u64 = 1 << 24;
 /// The Rust's single π is this over 2^22.
-const PI_SINGLE: u128 = 13_176_795;
+pub const PI_SINGLE: u128 = 13_176_795;
 
 /// A real number between two bounds, both in units of 2^-60. Each operation rounds the lower bound down and the
 /// upper one up, so the number stays inside.
@@ -208,9 +209,33 @@ fn parts(x: f32) -> (bool, u128, i32) {
     }
 }
 
-/// The step of a frequency: the greatest whole number no more than 512 × |f|.
+/// The whole number nearest n / d, a half to the even one.
+fn nearest_whole(n: u128, d: u128) -> u64 {
+    let (whole, rest) = (n / d, n % d);
+    let nearest = match (2 * rest).cmp(&d) {
+        Ordering::Less => whole,
+        Ordering::Equal => whole + whole % 2,
+        Ordering::Greater => whole + 1,
+    };
+    nearest as u64
+}
+
+/// The whole number nearest |x| × 2^places / d, a half to the even one, for a finite single x.
+fn nearest_scaled(x: f32, places: i32, d: u128) -> u64 {
+    let (_, digits, exponent) = parts(x);
+    let shift = exponent + places;
+    if shift >= 0 {
+        assert!(shift < 100, "{x} is too large to scale by 2^{places}");
+        nearest_whole(digits << shift, d)
+    } else {
+        // Divided by more than it has digits, it is 0 all the same.
+        nearest_whole(digits, d << (-shift).min(100))
+    }
+}
+
+/// The step of a frequency: the whole number nearest 512 × |f|, a half to the even one.
 pub fn step_of_frequency(f: f32) -> u64 {
-    floor_scaled(f.abs(), 9) as u64
+    nearest_scaled(f, 9, 1)
 }
 
 /// The cosine of a frequency, narrowed.
@@ -232,11 +257,8 @@ pub fn grid_point(i: usize) -> f64 {
 fn nearest_single(n: u128, places: i32) -> f32 {
     let length = 128 - n.leading_zeros() as i32;
     let dropped = (length - 24).max(0);
-    let (kept, rest, half) = (n >> dropped, n & ((1 << dropped) - 1), (1u128 << dropped) >> 1);
-    let round_up = dropped > 0 && (rest > half || (rest == half && kept % 2 == 1));
-    let digits = kept + u128::from(round_up);
     // At most 2^24, and times a power of two well inside the normal range: nothing is rounded again.
-    digits as f32 * 2f32.powi(dropped - places)
+    nearest_whole(n, 1 << dropped) as f32 * 2f32.powi(dropped - places)
 }
 
 /// The angle of a step, k × π / 2^24, rounded once to single.
@@ -249,17 +271,9 @@ pub fn angle_of_cosine(c: f32) -> f32 {
     angle_of_step(step_of_cosine(c))
 }
 
-/// The step of an angle: the greatest whole number no more than |angle| × 2^24 / π.
+/// The step of an angle: the whole number nearest |angle| × 2^24 / π, a half to the even one.
 pub fn step_of_angle(angle: f32) -> u64 {
-    let (_, digits, exponent) = parts(angle);
-    let shift = exponent + 46;
-    if shift >= 0 {
-        assert!(shift < 100, "the angle {angle} is too large");
-        ((digits << shift) / PI_SINGLE) as u64
-    } else {
-        // Divided by more than it has digits, it is 0 all the same.
-        (digits / (PI_SINGLE << (-shift).min(100))) as u64
-    }
+    nearest_scaled(angle, 46, PI_SINGLE)
 }
 
 /// The cosine of an angle, narrowed.
@@ -317,8 +331,21 @@ mod tests {
         for (c, k) in [(1.0, 0), (0.0, 1 << 23), (-0.0, 1 << 23), (-1.0, 1 << 24)] {
             assert_eq!(step_of_cosine(c), k);
         }
-        assert_eq!(step_of_frequency(3.0 / 1024.0), 1);
         assert_eq!(step_of_frequency(-65_536.0), 1 << 25);
+    }
+
+    /// Request E1's case, the halves around it, and the singles beside.
+    #[test]
+    fn frequencies_take_the_nearest_step() {
+        for (f, k) in [(1.0, 0), (3.0, 2), (-3.0, 2), (5.0, 2), (7.0, 4), (16_777_215.0, 1 << 23)] {
+            assert_eq!(step_of_frequency(f / 1024.0), k, "{f}/1024");
+        }
+        for (bits, k) in [(0x3a80_0001, 1), (0x3b3f_ffff, 1), (0x3b40_0001, 2), (1, 0)] {
+            assert_eq!(step_of_frequency(f32::from_bits(bits)), k, "{bits:08x}");
+        }
+        for k in (0..=HALF_CIRCLE).step_by(61) {
+            assert_eq!(step_of_frequency(k as f32 / 512.0), k);
+        }
     }
 
     #[test]
@@ -359,5 +386,18 @@ mod tests {
         assert_eq!(step_of_angle(std::f32::consts::PI), HALF_CIRCLE);
         assert_eq!(step_of_angle(-std::f32::consts::PI), HALF_CIRCLE);
         assert_eq!(step_of_angle(f32::from_bits(1)), 0);
+    }
+
+    /// The one angle halfway between two steps, and the singles beside; then every step whose angle is below 2, and the first that
+    /// does not come back.
+    #[test]
+    fn angles_take_the_nearest_step() {
+        for (bits, k) in [(0x33c9_0fda, 0), (0x33c9_0fdb, 0), (0xb3c9_0fdb, 0), (0x33c9_0fdc, 1), (0x3449_0fdb, 1)] {
+            assert_eq!(step_of_angle(f32::from_bits(bits)), k, "{bits:08x}");
+        }
+        for k in 0..=10_680_708 {
+            assert_eq!(step_of_angle(angle_of_step(k)), k);
+        }
+        assert_eq!(step_of_angle(angle_of_step(10_680_709)), 10_680_708);
     }
 }

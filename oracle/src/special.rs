@@ -6,6 +6,7 @@ use crate::random::Random;
 use crate::rule;
 use crate::shape::{bits, word, Parts};
 use std::f64::consts::PI;
+use std::sync::OnceLock;
 
 /// Windows whose prediction error all but vanishes: tones, steps, alternation, one sample.
 pub fn lpc_analysis(random: &mut Random, _: u64) -> Parts {
@@ -93,18 +94,19 @@ fn beside(x: f32, side: u64) -> u32 {
     }
 }
 
-/// Every node of the table as a frequency, with its neighbours, in order; then the frequencies of random steps.
+/// Every node of the table as a frequency, with its neighbours, in order; then the frequencies of random steps, and those halfway between
+/// two.
 pub fn lsp_freq_to_cosines(random: &mut Random, turn: u64) -> Parts {
     let words = (0..10).map(|i| {
         let place = turn * 10 + i;
-        let (step, side) = if place < 3 * 8193 {
-            (place / 3 * 4096, place % 3)
+        let (halves, side) = if place < 3 * 8193 {
+            (place / 3 * 8192, place % 3)
         } else {
-            let most = *random.pick(&[16u64, 4096, 1 << 20, 1 << 24, 1 << 25]);
+            let most = *random.pick(&[32u64, 8192, 1 << 21, 1 << 24, 1 << 25, 1 << 26]);
             (random.next() % (most + 1), random.next() % 3)
         };
         let sign = if random.once_in(4) { 0x8000_0000 } else { 0 };
-        beside(step as f32 / 512.0, side) ^ sign
+        beside(halves as f32 / 1024.0, side) ^ sign
     });
     vec![words.collect()]
 }
@@ -131,15 +133,20 @@ pub fn decode_lsp_freq(random: &mut Random, _: u64) -> Parts {
     vec![vec![random.bits()], bits(&prev)]
 }
 
-/// Lines that crowd, cross, lie on the ends, or stand apart by about the spacing.
+/// Lines that crowd, cross, lie on the ends, stand apart by about the spacing, or have angles all but halfway between two steps.
 pub fn enforce_lsp_stability(random: &mut Random, turn: u64) -> Parts {
+    if turn % 5 == 4 {
+        let mut set = [0; 10].map(|_| *random.pick(all_but_halfway()));
+        set.sort_by(|a, b| b.total_cmp(a));
+        return vec![bits(&set), vec![0.1f32.to_bits()]];
+    }
     let hz = f32::from_bits(spacing(random)[0]);
     let gap = 2.0 * PI * hz as f64 / 8000.0;
     let mut angle = *random.pick(&[0.0, 1e-4, 0.3, 1.5, 2.9, PI - 1e-3]);
     let mut set = [0.0f32; 10];
     for line in &mut set {
         *line = angle.cos() as f32;
-        angle += match turn % 4 {
+        angle += match turn % 5 {
             0 => gap * random.between(0.99998, 1.00002),
             1 => gap * random.between(0.0, 1.2),
             2 => random.between(-0.2, 0.3),
@@ -148,6 +155,26 @@ pub fn enforce_lsp_stability(random: &mut Random, turn: u64) -> Parts {
         angle = angle.clamp(0.0, PI);
     }
     vec![bits(&set), vec![hz.to_bits()]]
+}
+
+/// Cosines whose angles, which are from 2 up, lie within 1/10,000 of a step of halfway between two: there a single's own rounding
+/// takes an angle so far from its step.
+fn all_but_halfway() -> &'static [f32] {
+    static FOUND: OnceLock<Vec<f32>> = OnceLock::new();
+    FOUND.get_or_init(|| {
+        // In units of 2^-46, of which such an angle has a whole number.
+        let step = rule::PI_SINGLE as u64;
+        let halfway = |k: &u64| {
+            let angle = (rule::angle_of_step(*k) as f64 * (1u64 << 46) as f64) as u64;
+            (angle % step * 2).abs_diff(step) < step / 5_000
+        };
+        // The cosine of a step narrows to a single of that step or to one just below, of the next.
+        let cosine = |k: u64| {
+            let c = (rule::cosine_of_step(k) as f64 / (1u64 << 42) as f64) as f32;
+            [c, f32::from_bits(c.to_bits() - 1)].into_iter().find(|c| rule::step_of_cosine(*c) == k)
+        };
+        (10_680_708..rule::HALF_CIRCLE).filter(halfway).filter_map(cosine).collect()
+    })
 }
 
 /// Zeros of both signs against values that a choice above 2 may not copy.

@@ -7,6 +7,7 @@ pub mod args;
 pub mod contracts;
 pub mod declared;
 pub mod rattle;
+pub mod sentences;
 pub mod theorems;
 
 use args::fail;

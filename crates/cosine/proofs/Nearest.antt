@@ -1,6 +1,7 @@
 -- The step of a frequency and the step of an angle, to the nearest. The code cuts |x| to whole units of 2^-46 before it rounds, and loses
--- nothing by it: a single has 24 digits, so that either no digit is cut off, or |x| is below 2^23 units, and that is less than half a
--- step. Assumes nothing.
+-- nothing by it. A single has 24 digits, so that either no digit is cut off, or |x| is below 2^23 units. Of a frequency that is far below
+-- half a step. Of an angle half a step is 6588397.5 units, which are fewer; so it is cut to units of 2^-47, of which half a step has
+-- 13176795, and the last of these tells no more than whether an angle lies halfway, as one alone does. Assumes nothing.
 use mathlib.Core.Path.{_≡_, refl, sym, ap, _∙_, subst}
 use mathlib.Core.Logic.{_⊎_, inl, inr}
 use mathlib.Core.Bool.{Bool, false}
@@ -113,7 +114,7 @@ pub frequency-step : (x : Float) → T (fits binary32 x) → halfEven (floor (2 
 unfolding halfEven stepOfFrequency
 frequency-step x f = single-cut 46 (2 ^ 37) x f (lit≤ tt) ∙ nearest-same (2 ^ 46) (2 ^ 37) 512 1 x (lit< tt) (lit< tt) refl
 
--- of an angle: its half units are looked at, 2^47, and the code needs them not
+-- of an angle: in units of 2^-47, of which the code needs only every second
 pub angle-step : (x : Float) → T (fits binary32 x) → (floor (2 ^ 46) 1 x + 6588397) / 13176795 ≡ stepOfAngle x
 unfolding stepOfAngle
 angle-step x f =
@@ -130,9 +131,11 @@ angle-step x f =
     near (inr e) = inr e
 
 -- ---- what the two steps are, of every finite value
-pub frequency-nearest : (s : Bool) (m : ℕ) (e : ℤ) → NearestTo (m * up e * 512) (down e * 1) (stepOfFrequency (fin s m e))
+pub frequency-nearest : (s : Bool) (m : ℕ) (e : ℤ) → NearestTo (m * up e * 512) (down e) (stepOfFrequency (fin s m e))
 unfolding stepOfFrequency
-frequency-nearest s m e = nearest-whole 512 1 s m e (lit< tt)
+frequency-nearest s m e =
+    subst (λ (d : ℕ). NearestTo (m * up e * 512) d (nearestWhole 512 1 (fin s m e))) (mul-one (down e))
+    (nearest-whole 512 1 s m e (lit< tt))
 
 pub angle-nearest : (s : Bool) (m : ℕ) (e : ℤ) →
     NearestTo (m * up e * (2 ^ 24 * 2 ^ 22)) (down e * 13176795) (stepOfAngle (fin s m e))

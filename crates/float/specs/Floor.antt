@@ -1,6 +1,6 @@
 -- |x| × p / q in exact arithmetic, rounded down: the greatest whole number that is not above it. Infinities and NaN, which no operation
 -- hands it, give 0.
--- Added by design, with the cosine rule. Document 01, B34, B40 and D12. Its laws are in `proofs/Floor.antt`. Assumes nothing.
+-- Added by design. Document 01, D12: a finite single is a whole number of its smallest units. Its laws are in `proofs/Floor.antt`. Assumes nothing.
 use Prim.Native.Nat.{ℕ, _*_, _/_}
 use lib.Ieee.{Float, nan, inf, fin, up, down}
 

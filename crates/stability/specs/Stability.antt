@@ -1,6 +1,6 @@
 -- The stability procedure whole: cosines to angles, the passes, the clamps, and back to cosines. What `converged` tells is of the passes,
 -- before the clamps.
--- §2.6 (eq. 6 to 7.3), §3.10; document 01, B36 to B41. Assumes nothing.
+-- §2.6 (eq. 6 to 7.3), §3.10; document 01, B36 to B41, B40 with request E1's rounding. Assumes nothing.
 use Prim.Native.Nat.{ℕ}
 use mathlib.Core.Bool.{Bool, false}
 use mathlib.Core.List.{List, [], _∷_, map}
@@ -21,7 +21,7 @@ use Rattle.stability.specs.declared.Stabilised.{Stabilised}
 abbrev pub angleOf : Float → Float
 angleOf c = angle (step (held c))
 
--- an angle to the step at or below it, and to the cosine of that
+-- an angle to the step nearest to it, and to the cosine of that
 abbrev pub cosineOf : Float → Float
 cosineOf a = cosineSingle (stepOfAngle a)
 

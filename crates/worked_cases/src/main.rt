@@ -1,5 +1,5 @@
-// The worked cases of document 01 that are run, E11 to E14, and the limits of narrowing and of the cosine rule: one line
-// each, and how many passed.
+// The worked cases of document 01 that are run, E11 to E14, with E11's step as request E1 has it, and the limits of narrowing and of
+// the cosine rule: one line each, and how many passed.
 mod cosines;
 mod frequencies;
 mod lists;
@@ -37,8 +37,28 @@ fn case(tally: Tally, name: &[u8], holds: bool) -> Tally {
 fn frequency_cases(tally: Tally) -> Tally {
     let t = case(
         tally,
-        b"frequency 3/1024 takes step 1",
-        frequencies::takes_step_below(),
+        b"frequency 3/1024 takes step 2",
+        frequencies::step_is(3.0 / 1024.0, 2),
+    );
+    let t = case(
+        t,
+        b"frequency -3/1024 takes step 2",
+        frequencies::step_is(-3.0 / 1024.0, 2),
+    );
+    let t = case(
+        t,
+        b"frequencies 1/1024, 5/1024 and 7/1024 take steps 0, 2 and 4",
+        frequencies::halves_are_even(),
+    );
+    let t = case(
+        t,
+        b"the singles beside 1/1024 and 3/1024 take the nearest step",
+        frequencies::beside_a_half(),
+    );
+    let t = case(
+        t,
+        b"the last frequency below 16,384 has cosine 0",
+        frequencies::last_below_the_quarter(),
     );
     let t = case(t, b"frequency 65,536 is taken", frequencies::taken(65536.0));
     let t = case(
@@ -160,10 +180,20 @@ fn cosine_cases(tally: Tally) -> Tally {
         b"step 2^25 has cosine 1",
         cosines::cosine_is(33554432, 0x3f80_0000),
     );
-    case(
+    let t = case(
         t,
         b"step 5 has an angle by the single pi",
         cosines::angle_of_step_5(),
+    );
+    let t = case(
+        t,
+        b"angle pi/2^25 takes step 0, and the next single step 1",
+        cosines::angle_halfway(),
+    );
+    case(
+        t,
+        b"steps 3, 10,680,706 and 10,680,707 come back from their angles",
+        cosines::angle_back(),
     )
 }
 

@@ -2,8 +2,9 @@
 
 use pages::args::{fail, top, Args};
 use pages::declared::declares;
+use pages::sentences::{self, row, Sentences};
 use pages::{crates, edits_of, pages_of, quoted, read};
-use std::collections::{BTreeMap, BTreeSet};
+use std::collections::BTreeSet;
 use std::fs;
 use std::path::{Path, PathBuf};
 
@@ -11,14 +12,17 @@ const HELP: &str = "\
 review: check that every file, theorem, edit and test that docs/REVIEW.md names exists, and those that the other pages name
 
   --file PATH        the page (docs/REVIEW.md of the repository around this folder)
-  --sentences PATH   document 01 numbered by sentence (../shared/01-sentences.md beside the repository, if it is there)
+  --sentences FOLDER documents 01 and 02 numbered by sentence, 01-sentences.md and 02-sentences.md (../shared beside the
+                     repository, if they are there)
   --help             this text
 
-A row of the page is `| C5 | \"Cosine of step k\" | .. |`: a sentence's number, its first words, what answers for it.
+A row of the page is `| C5 | \"Cosine of step k\" | .. |`: a sentence's number, its first words, what answers for it. A sentence of
+a request of document 02 has a number as E1.2.
 A name in backquotes with a slash and no space is a path from the top of the repository, or a path and a name in that file, as
 `crates/cosine/specs/Cosine.antt#cosine`. Each path must exist, and each name must be declared in its file: an import or a use of it does not count.
-Under each letter the numbers run from 1 with none missing and none twice. Where the numbered sentences are at hand, each
-row's words must open its sentence, and every sentence must have a row.
+Under each letter and each request the numbers run from 1 with none missing and none twice, and the requests from E0. Where the
+numbered sentences are at hand, each row's words must open its sentence, and every sentence must have a row: all of
+document 01, and of document 02 those of every request that has one.
 The other pages of docs/ and README.md are held to their paths and names too, but for what a build or a checkout makes
 (what lies in a folder target/, or starts with ../) and folders.
 On docs/TRUST.md a name in backquotes as `lpc:longer_window_taken` is an edit, crates/lpc/must-fail/longer_window_taken.edit: each must
@@ -32,54 +36,37 @@ fn main() {
     let file = args.value("--file").unwrap_or_else(|| top.join("docs/REVIEW.md"));
     let given: Option<PathBuf> = args.value("--sentences");
     args.end();
-    let default = top.join("../shared/01-sentences.md");
-    let sentences = match given {
-        Some(path) => Some(read(&path)),
-        None if default.is_file() => Some(read(&default)),
-        None => None,
+    let texts = |folder: PathBuf| ["01", "02"].map(|document| folder.join(format!("{document}-sentences.md")));
+    let default = texts(top.join("../shared"));
+    let at_hand = match given {
+        Some(folder) => Some(texts(folder)),
+        None => default.iter().all(|path| path.is_file()).then_some(default),
     };
-    let sentences = sentences.map(|text| numbered(&text));
+    let sentences = at_hand.map(|paths| Sentences::of(&paths.map(|path| read(&path))));
+    let page = read(&file);
     let (mut faults, mut rows, mut bare, mut names) = (0, 0, 0, 0);
-    let mut seen: BTreeMap<char, u32> = BTreeMap::new();
-    for (i, line) in read(&file).lines().enumerate() {
-        let mut wrong = |what: String| {
-            println!("{}:{}: {what}", file.display(), i + 1);
-            faults += 1;
-        };
+    let mut wrong = |line: Option<usize>, what: String| {
+        let line = line.map(|i| format!("{}:", i + 1)).unwrap_or_default();
+        println!("{}:{line} {what}", file.display());
+        faults += 1;
+    };
+    for (i, line) in page.lines().enumerate() {
         let before = names;
         for name in named(line) {
             names += 1;
             if let Err(what) = exists(&top, name) {
-                wrong(what);
+                wrong(Some(i), what);
             }
         }
-        if let Some(row) = row(line) {
+        if row(line).is_some() {
             rows += 1;
             bare += usize::from(names == before);
-            let (letter, digits) = row.number.split_at(1);
-            let last = seen.entry(letter.chars().next().unwrap_or('?')).or_default();
-            *last += 1;
-            if digits.parse() != Ok(*last) {
-                wrong(format!("{} stands where {letter}{last} is due", row.number));
-                *last = digits.parse().unwrap_or(*last);
-            }
-            if let Some(Err(what)) = sentences.as_ref().map(|all| opens(all, &row)) {
-                wrong(what);
-            }
         }
     }
-    if rows == 0 {
-        println!("{}: no row", file.display());
-        faults += 1;
+    for (line, what) in sentences::faults(&page, sentences.as_ref()) {
+        wrong(line, what);
     }
-    if let Some(all) = sentences.as_ref().filter(|all| all.len() != rows) {
-        println!("{}: {rows} rows, and document 01 has {} sentences", file.display(), all.len());
-        faults += 1;
-    }
-    let held = match &sentences {
-        Some(all) => format!(", held to the {} sentences of document 01", all.len()),
-        None => String::new(),
-    };
+    let held = if sentences.is_some() { ", held to the sentences of documents 01 and 02" } else { "" };
     println!("{rows} rows ({bare} without a path), {names} names{held}: {faults} faults");
     faults += other_pages(&top, &file);
     faults += edits(&top);
@@ -158,43 +145,6 @@ fn edits_there(top: &Path) -> std::io::Result<BTreeSet<String>> {
 /// The names in backquotes that are paths.
 fn named(line: &str) -> impl Iterator<Item = &str> {
     quoted(line).filter(|name| name.contains('/') && !name.contains(' '))
-}
-
-struct Row<'a> {
-    number: &'a str,
-    words: &'a str,
-}
-
-/// A row of the table: a letter and a number first, then words in quotation marks.
-fn row(line: &str) -> Option<Row<'_>> {
-    let mut cells = line.strip_prefix('|')?.split('|').map(str::trim);
-    let number = cells.next()?;
-    let (letter, digits) = number.split_at_checked(1)?;
-    let numbered =
-        letter.as_bytes()[0].is_ascii_uppercase() && !digits.is_empty() && digits.bytes().all(|b| b.is_ascii_digit());
-    numbered.then(|| Row { number, words: cells.next().unwrap_or("").trim_matches('"') })
-}
-
-/// The sentences by number, without marks of emphasis.
-fn numbered(text: &str) -> BTreeMap<String, String> {
-    let lines = text.lines().filter_map(|line| line.strip_prefix("- ")?.split_once(". "));
-    lines.map(|(number, sentence)| (number.to_string(), without_marks(sentence))).collect()
-}
-
-fn without_marks(text: &str) -> String {
-    text.replace(['`', '*', '"'], "").split_whitespace().collect::<Vec<_>>().join(" ")
-}
-
-fn opens(all: &BTreeMap<String, String>, row: &Row) -> Result<(), String> {
-    let words = without_marks(row.words.trim_end_matches(['.', '…', ' ']));
-    match all.get(row.number) {
-        None => Err(format!("document 01 has no sentence {}", row.number)),
-        Some(_) if words.is_empty() => Err(format!("the row of {} does not quote its sentence", row.number)),
-        Some(sentence) if !sentence.starts_with(&words) => {
-            Err(format!("{} opens with other words: {sentence}", row.number))
-        }
-        Some(_) => Ok(()),
-    }
 }
 
 /// Whether a path is there, and a name declared in the file at it.
