@@ -35,7 +35,7 @@
 extern "C" {
 #endif
 
-#define G7231_VERSION "0.2.0"
+#define G7231_VERSION "0.3.0"
 
 enum {
     G7231_ORDER = 10,    /* lines of a set, taps of a filter, values of its memory */

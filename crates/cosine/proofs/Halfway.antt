@@ -1,7 +1,7 @@
 -- Cases of the two roundings, each by computing: halfway between two steps, and the singles beside. Assumes nothing.
 use mathlib.Core.Path.{_≡_, refl}
-use Prim.Native.Nat.{ℕ, _*_, _^_}
-use lib.Ieee.{Float, neg, round}
+use Prim.Native.Nat.{_^_}
+use lib.Ieee.{neg, round}
 use Rattle.float.specs.Single.{single}
 use Rattle.float.specs.Nearest.{nearestWhole}
 use Rattle.cosine.specs.Step.{stepOfFrequency}

@@ -4,7 +4,7 @@
 -- 13176795, and the last of these tells no more than whether an angle lies halfway, as one alone does. Assumes nothing.
 use mathlib.Core.Path.{_≡_, refl, sym, ap, _∙_, subst}
 use mathlib.Core.Logic.{_⊎_, inl, inr}
-use mathlib.Core.Bool.{Bool, false}
+use mathlib.Core.Bool.{Bool}
 use Prim.Native.Nat.{ℕ, zero, suc, _+_, _-_, _*_, _/_, _%_, _^_, _≤_, _<_}
 use native.Mathlib.Nat.{le-trans, le-of-eq, lt-of-lt-of-le, lt-of-le-of-lt, eq-zero-or-pos, mul-one, mul-assoc, mul-comm, mul-left-comm, mul-le-mul-left, mul-lt-mul-of-pos-right, mul-div-cancel, mul-mod-right, div-lt-iff-lt-mul, pow-succ'}
 use native.Mathlib.Omega.{arith}

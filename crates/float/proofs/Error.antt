@@ -1,15 +1,13 @@
--- The error of a rounding: a value below 2 ^ (prec + k) of the format's smallest values is rounded to a finite one, and moves by at most half of 2 ^ k of them.
--- The value is w / c of those. Assumes nothing.
-use mathlib.Core.Path.{_≡_, refl, sym, ap, _∙_, subst}
-use mathlib.Core.Logic.{inl, inr}
-use mathlib.Core.Bool.{Bool, not}
-use Prim.Native.Nat.{ℕ, zero, suc, _+_, _-_, _*_, _/_, _%_, _^_, _≤_, _<_, compare, Ordering, Ordering·lt, Ordering·eq, Ordering·gt}
-use native.Mathlib.Nat.{le-refl, le-trans, le-of-eq, le-of-lt, lt-of-le-of-lt, lt-of-lt-of-le, mul-assoc, mul-comm, mul-left-comm, mul-right-comm, mul-pos, add-mul, suc-mul, zero-mul, one-mul, mul-le-mul-left, mul-le-mul-right, le-of-mul-le-mul-right, mul-lt-mul-of-pos-right, mod-lt, div-add-mod', div-lt-iff-lt-mul}
+-- The error of a rounding: a value below 2 ^ (prec + k) of the format's smallest values is rounded to a finite one, and moves by at
+-- most half of 2 ^ k of them. The value is w / c of those. Assumes nothing.
+use mathlib.Core.Path.{_≡_, sym, ap, _∙_, subst}
+use mathlib.Core.Bool.{Bool}
+use Prim.Native.Nat.{ℕ, suc, _+_, _-_, _*_, _/_, _%_, _^_, _≤_, _<_, compare}
+use native.Mathlib.Nat.{le-trans, le-of-eq, lt-of-le-of-lt, lt-of-lt-of-le, mul-assoc, mul-comm, mul-left-comm, mul-right-comm, mul-pos, add-mul, mul-le-mul-left, mul-le-mul-right, le-of-mul-le-mul-right, mul-lt-mul-of-pos-right, div-lt-iff-lt-mul, div-div-eq-div-mul}
 use native.Mathlib.Omega.{arith}
-use lib.Arith.{lt-of-le-ne}
-use lib.Dec.{T, isLe, isEq, eqb, leb→le, nleb→lt, eqb→eq, eqb-refl}
+use lib.Dec.{T}
 use lib.Pow.{pow-add, pow-pos, pow-mono, pow-lt}
-use lib.Ieee.{Float, Format, prec, emax, low, size, nearest, units, round, fits}
+use lib.Ieee.{Float, Format, prec, emax, low, size, round, fits}
 use lib.Ieee.Digits.{size-le}
 use lib.Ieee.Exact.{HasValue, units-val}
 use lib.Ieee.Fits.{round-is, round-fits, nearest-le, kept-lt}
@@ -62,11 +60,16 @@ module _ (f : Format) (s : Bool) (w c k : ℕ) (C : 0 < c) (K : prec f + k ≤ l
       (lt-of-lt-of-le (mul-lt-mul-of-pos-right W (pow-pos (low f))) (le-of-eq (mul-assoc (2 ^ (prec f + k)) c l)))))
 
   q-le : q ≤ 2 ^ prec f
-  q-le = le-trans (nearest-le (n / (d * 2 ^ j)) (compare (n % (d * 2 ^ j) * 2) (d * 2 ^ j))) (subst (λ (x : ℕ). x < 2 ^ prec f) (native.Mathlib.Nat.div-div-eq-div-mul n d (2 ^ j)) (kept-lt (prec f) (n / d)))
+  q-le =
+      let u = d * 2 ^ j in
+      le-trans (nearest-le (n / u) (compare (n % u * 2) u))
+      (subst (λ (x : ℕ). x < 2 ^ prec f) (div-div-eq-div-mul n d (2 ^ j)) (kept-lt (prec f) (n / d)))
 
   under-top : q * 2 ^ j < overflow f
   under-top =
-      lt-of-le-of-lt (le-trans (mul-le-mul-right (2 ^ j) q-le) (le-trans (le-of-eq (sym (pow-add 2 (prec f) j))) (pow-mono (most (prec f) j k (low f + emax f) j-le K))))
+      let whole : q * 2 ^ j ≤ 2 ^ (prec f + j) =
+      le-trans (mul-le-mul-right (2 ^ j) q-le) (le-of-eq (sym (pow-add 2 (prec f) j))) in
+      lt-of-le-of-lt (le-trans whole (pow-mono (most (prec f) j k (low f + emax f) j-le K)))
       (pow-lt (last (low f) (emax f)))
     where
       most : (p j k t : ℕ) → j ≤ k → p + k ≤ t → p + j ≤ t
@@ -93,7 +96,9 @@ module _ (f : Format) (s : Bool) (w c k : ℕ) (C : 0 < c) (K : prec f + k ≤ l
 
   cancel : (a b u e : ℕ) → u ≤ e → 2 * (a * l) ≤ 2 * (b * l) + c * u * l → 2 * a ≤ 2 * b + c * e
   cancel a b u e h g =
-      let x : 2 * a * l ≤ (2 * b + c * u) * l = le-trans (le-of-eq (mul-assoc 2 a l)) (le-trans g (le-of-eq (ap (λ (y : ℕ). y + c * u * l) (sym (mul-assoc 2 b l)) ∙ sym (add-mul (2 * b) (c * u) l)))) in
+      let joined : 2 * (b * l) + c * u * l ≡ (2 * b + c * u) * l =
+      ap (λ (y : ℕ). y + c * u * l) (sym (mul-assoc 2 b l)) ∙ sym (add-mul (2 * b) (c * u) l) in
+      let x : 2 * a * l ≤ (2 * b + c * u) * l = le-trans (le-of-eq (mul-assoc 2 a l)) (le-trans g (le-of-eq joined)) in
       let y : 2 * a ≤ 2 * b + c * u = le-of-mul-le-mul-right x (pow-pos (low f)) in
       let z : c * u ≤ c * e = mul-le-mul-left c h in
       omega arith

@@ -1,13 +1,12 @@
 -- Division by a power of two with half of it, less one, added first, and one more where the whole part is odd, is `halfEven`.
 -- That sum fits 64 bits for an argument below 2 ^ 63. Assumes nothing.
-use mathlib.Core.Path.{_≡_, refl, sym, ap, _∙_, subst}
+use mathlib.Core.Path.{_≡_, refl, sym, ap, _∙_}
 use Prim.Native.Nat.{ℕ, suc, _+_, _-_, _*_, _/_, _%_, _^_, _≤_, _<_, compare, Ordering, Ordering·lt, Ordering·eq, Ordering·gt}
 use mathlib.Core.Logic.{inl, inr}
-use native.Mathlib.Nat.{le-trans, le-of-lt, not-le-of-lt, div-eq-of-lt, mod-eq-of-lt, le-div-iff-mul-le, div-lt-iff-lt-mul, add-comm, add-suc, add-mul-div-right, mul-add-mod-self-right, one-mul, eq-zero-or-pos, mod-lt, div-add-mod', suc-mul, pow-succ'}
+use native.Mathlib.Nat.{le-trans, le-div-iff-mul-le, div-lt-iff-lt-mul, add-comm, add-suc, add-mul-div-right, mul-add-mod-self-right, one-mul, eq-zero-or-pos, mod-lt, div-add-mod', suc-mul, pow-succ'}
 use native.Mathlib.Omega.{arith}
-use mathlib.Core.Bool.{not}
-use lib.Arith.{digits-div, lt-of-le-ne}
-use lib.Dec.{T, isLe, isEq, eqb, leb→le, nleb→lt, eqb→eq, eqb-refl, lit<}
+use lib.Arith.{digits-div}
+use lib.Dec.{lit<}
 use lib.Pow.{pow-pos, pow-mono, shl-exact}
 use lib.Ieee.{nearest}
 use lib.Ieee.Fits.{nearest-le}
@@ -98,6 +97,8 @@ unfolding halfEven
 half-even-add d j r =
     let u = 2 ^ r in
     let s = j * 2 * u + d in
+    let whole : s / u ≡ j * 2 + d / u =
+    ap (λ (x : ℕ). x / u) (add-comm (j * 2 * u) d) ∙ add-mul-div-right d (j * 2) (pow-pos r) ∙ add-comm (d / u) (j * 2) in
     ap (λ (x : ℕ). nearest (s / u) (compare (x * 2) u)) (mul-add-mod-self-right (j * 2) u d)
-    ∙ ap (λ (x : ℕ). nearest x (compare (d % u * 2) u)) (ap (λ (x : ℕ). x / u) (add-comm (j * 2 * u) d) ∙ add-mul-div-right d (j * 2) (pow-pos r) ∙ add-comm (d / u) (j * 2))
+    ∙ ap (λ (x : ℕ). nearest x (compare (d % u * 2) u)) whole
     ∙ nearest-add j (d / u) (compare (d % u * 2) u)

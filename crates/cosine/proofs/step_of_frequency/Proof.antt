@@ -1,11 +1,10 @@
 -- `cosine::step_of_frequency` meets its contract: nothing that counts is cut off before the rounding. Assumes nothing.
 use borrow.Author.Needs.{needs}
-use mathlib.Core.Path.{_≡_, sym, ap, _∙_, subst}
+use mathlib.Core.Path.{sym, ap, _∙_, subst}
 use Prim.Native.Nat.{ℕ, _+_, _*_, _^_, _≤_}
 use native.Mathlib.Omega.{arith}
 use lib.Dec.{lit<}
 use lib.Ieee.Nearest.{closest}
-use Rattle.float.specs.Floor.{floor}
 use Rattle.float.specs.inner.HalfEven.{halfEven}
 use Rattle.float.proofs.Floor.{floor-le}
 use Rattle.float.proofs.Nearest.{closest-nearest}

@@ -1,5 +1,5 @@
 -- `worked_cases::cosines::step_of_angle_is` is safe: what is asked of the angle is tested first. Assumes nothing.
-use mathlib.Core.Path.{_≡_, sym, _∙_}
+use mathlib.Core.Path.{sym, _∙_}
 use borrow.Author.Needs.{needs}
 use lib.Ieee.{ofBits}
 use Rattle.worked_cases.proofs.cosines.step_of_angle_is.Statement.{statement}

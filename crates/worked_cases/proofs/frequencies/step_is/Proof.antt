@@ -1,5 +1,5 @@
 -- `worked_cases::frequencies::step_is` is safe: what is asked of the frequency is tested first. Assumes nothing.
-use mathlib.Core.Path.{_≡_, sym, _∙_}
+use mathlib.Core.Path.{sym, _∙_}
 use borrow.Author.Needs.{needs}
 use lib.Ieee.{ofBits}
 use Rattle.worked_cases.proofs.frequencies.step_is.Statement.{statement}
