@@ -33,9 +33,9 @@ differ: call the door of every function that the Rust has and compare its answer
   --help         this text
 
 The limits come first, then random bits, speech-like values and damaged copies. Results are compared bit for bit with
-the Rust in which each call of cos, acos and log10 is replaced by document 01's rule; every NaN counts as one. After a
-refusal every lent buffer must be untouched. For functions that call cos, acos or log10 the largest distance to the
-published Rust is printed, with the input that showed it, and held to document 01's bounds.
+the Rust in which each call of cos, acos and log10 is replaced by document 01's rule, as request E1 changed it; every NaN
+counts as one. After a refusal every lent buffer must be untouched. For functions that call cos, acos or log10 the largest
+distance to the published Rust is printed, with the input that showed it, and held to document 01's bounds.
 
 An input is fixed by seed, function and turn. The outcome of a seed and a count is the same on any number of threads.
 The run stops at the first difference, the one of the lowest turn, and prints it; then the plainest input found that
