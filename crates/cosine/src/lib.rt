@@ -145,8 +145,8 @@ pub fn step(t: &[u32; 2049], c: f32) -> u32
     low_step(t, whole_part(x) / 16)
 }
 
-// The whole number of steps nearest to a frequency of up to 65,536 in magnitude, a half going to the even one. What whole_part cuts off is
-// of frequencies far below half a step.
+// The whole number of steps nearest to a frequency of up to 65,536 in magnitude, a half going to the even one. Where whole_part cuts
+// anything off, the frequency is far below half a step.
 pub fn step_of_frequency(f: f32) -> u32
     requires { ⌜ exceeds (power 16) f ≡ false ⌝ }
     ensures { λ r. ⌜ (r ≡ stepOfFrequency f) × (r ≤ 2 ^ 25) ⌝ }
@@ -154,8 +154,8 @@ pub fn step_of_frequency(f: f32) -> u32
     float::half_even(whole_part(f), 37) as u32
 }
 
-// The whole number of steps nearest to an angle of up to 16 in magnitude, a half going to the even one. A step is 13176795 units of 2^-46,
-// an odd number, so that a half takes half a unit: one single has it, 6588397.5 units, which goes to 0.
+// The whole number of steps nearest to an angle of up to 16 in magnitude, a half going to the even one. A step is 13176795 units of
+// 2^-46, an odd number: halfway lies half a unit, which one single alone has, 6588397.5 units, and that goes to 0.
 pub fn step_of_angle(a: f32) -> u32
     requires { ⌜ exceeds (power 4) a ≡ false ⌝ }
     ensures { λ r. ⌜ r ≡ stepOfAngle a ⌝ }

@@ -7,10 +7,12 @@ use Prim.Native.Nat.{ℕ, _+_, _*_, _%_, _≤_}
 use lib.Ieee.{Float, nan, inf, fin, up, down}
 use lib.Ieee.Nearest.{closest}
 
--- k is no farther than a half from n / d, and even where it is a half
+-- k is the whole number nearest to n / d, and the even one where two are as near
 pub record NearestTo (n d k : ℕ) : Type 0 where
+  -- n / d ≤ k + 1/2, and k ≤ n / d + 1/2
   pub low : 2 * n ≤ 2 * (k * d) + d
   pub high : 2 * (k * d) ≤ 2 * n + d
+  -- where either is an equality n / d lies halfway, and k is even
   pub even-low : 2 * n ≡ 2 * (k * d) + d → k % 2 ≡ 0
   pub even-high : 2 * (k * d) ≡ 2 * n + d → k % 2 ≡ 0
 
