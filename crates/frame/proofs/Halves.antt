@@ -1,0 +1,69 @@
+-- The spectrum and the voice of a frame make the frame: of a chain's statuses the first that is not 0 is the same whether some of them are
+-- taken together before or not. Assumes nothing.
+use mathlib.Core.Path.{_≡_, refl, sym, ap, _∙_}
+use mathlib.Core.List.{List, [], _∷_, _++_}
+use Prim.Native.Nat.{ℕ, zero, suc}
+use lib.IntN.{ℤ}
+use lib.Ieee.{Float}
+use Rattle.float.specs.Refusal.{firstOf, answer}
+use Rattle.float.proofs.Refusal.{answer-refused, answer-done}
+use Rattle.frame.specs.declared.Coder.{Coder}
+use Rattle.frame.specs.declared.Filters.{Filters}
+use Rattle.frame.specs.declared.Frame.{Frame}
+use Rattle.frame.specs.declared.Spectrum.{Spectrum}
+use Rattle.frame.specs.declared.Voice.{Voice}
+use Rattle.frame.specs.Windows.{windows}
+use Rattle.frame.specs.Lines.{lines, stabilised}
+use Rattle.frame.specs.Filters.{filters}
+use Rattle.frame.specs.Weighting.{weighting}
+use Rattle.frame.specs.Pitch.{pitches, shapings}
+use Rattle.frame.specs.Frame.{refusal, coded}
+use Rattle.frame.specs.inner.Halves.{spectrum, voice, finished}
+
+together : (ss ts : List ℕ) → firstOf (ss ++ ts) ≡ answer (firstOf ss) (λ n. n) (firstOf ts)
+together [] ts = refl
+together (zero ∷ ss) ts = together ss ts
+together (suc s ∷ ss) ts = refl
+
+pub last-of : (s : ℕ) → s ≡ firstOf (s ∷ [])
+last-of zero = refl
+last-of (suc s) = refl
+
+-- three statuses, of which the last two were taken together
+pub in-turn : (a b c p n : ℕ) → p ≡ answer b (λ k. k) c → n ≡ answer a (λ k. k) p → n ≡ firstOf (a ∷ b ∷ c ∷ [])
+in-turn a b c p n e f = f ∙ ap (answer a (λ k. k)) (e ∙ ap (answer b (λ k. k)) (last-of c))
+
+-- statuses that were taken together in two groups
+grouped : (a : ℕ) (ss ts : List ℕ) → firstOf (a ∷ ss ++ ts) ≡ firstOf (a ∷ firstOf ss ∷ firstOf ts ∷ [])
+grouped a ss ts = ap (answer a (λ n. n)) (together ss ts ∙ ap (answer (firstOf ss) (λ n. n)) (last-of (firstOf ts)))
+
+-- the frame of the windows, the spectrum and the voice
+halved : (rows : List ℤ) (coder : Coder) (x : List Float) (hz : Float) →
+    let w = windows x in
+    let s = spectrum rows coder (w .a3) hz in
+    let v = voice coder w x in
+    coded rows coder x hz ≡ answer (firstOf (w .status ∷ s .status ∷ v .status ∷ [])) (refusal coder) (finished s v)
+unfolding coded spectrum voice
+halved rows coder x hz =
+    let w = windows x in
+    let l = lines rows (w .a3) (coder .set) in
+    let s = stabilised (l .set) hz in
+    let f = filters (coder .lines) (s .cosines) in
+    let v = weighting coder w x in
+    let p = pitches (v .speech) in
+    let h = shapings (v .speech) (p .lags) in
+    ap (λ (n : ℕ). answer n (refusal coder) (finished (spectrum rows coder (w .a3) hz) (voice coder w x)))
+    (grouped (w .status) (l .status ∷ s .status ∷ f .status ∷ []) (v .status ∷ p .status ∷ h .status ∷ []))
+
+-- what was answered: w, s and v, and their first status n
+module _ (rows : List ℤ) (coder : Coder) (x : List Float) (hz : Float) (w : Filters) (s : Spectrum) (v : Voice) (p n : ℕ)
+    (ew : w ≡ windows x) (es : s ≡ spectrum rows coder (w .a3) hz) (ev : v ≡ voice coder w x)
+    (ep : p ≡ answer (s .status) (λ k. k) (v .status)) (en : n ≡ answer (w .status) (λ k. k) p) where
+  frame-of : answer n (refusal coder) (finished s v) ≡ coded rows coder x hz
+  frame-of = rw (in-turn (w .status) (s .status) (v .status) p n ep en, ev, es, ew) (sym (halved rows coder x hz))
+
+  pub frame-refused : {r : Frame} → (n ≡ 0 → ⊥) → r ≡ refusal coder n → r ≡ coded rows coder x hz
+  frame-refused h e = answer-refused (refusal coder) (finished s v) refl h e ∙ frame-of
+
+  pub frame-finished : {r : Frame} → n ≡ 0 → r ≡ finished s v → r ≡ coded rows coder x hz
+  frame-finished h e = answer-done (refusal coder) refl h e ∙ frame-of

@@ -1,0 +1,2 @@
+mod Begins
+mod Halves

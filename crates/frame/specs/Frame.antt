@@ -1,0 +1,63 @@
+-- `code_frame`: the whole answer on every frame. The stages stand in the order in which they run; the first refusal among them refuses the
+-- frame with its number and leaves every memory as it was. A stage after a refused one is computed on that one's zeros and does not matter.
+-- `rows` is any list of code rows, and hz the spacing of the stability check.
+-- Document 02, E2.1 to E2.18. Assumes nothing.
+use Prim.Native.Nat.{ℕ}
+use mathlib.Core.Bool.{not}
+use mathlib.Core.List.{List, [], _∷_, _++_}
+use lib.Dec.{eqb}
+use lib.IntN.{ℤ}
+use lib.ListN.{length, replicate, drop}
+use lib.Ieee.{Float}
+use Rattle.float.specs.Refusal.{first, firstOf, answer}
+use Rattle.float.specs.Single.{single}
+use Rattle.float.specs.Vector.{zeros}
+use Rattle.spec_lsp.specs.declared.quantise.Quantised.{Quantised}
+use Rattle.stability.specs.declared.Stabilised.{Stabilised}
+use Rattle.pitch.specs.declared.HnsParams.{HnsParams}
+use Rattle.frame.specs.declared.Coder.{Coder}
+use Rattle.frame.specs.declared.Frame.{Frame}
+use Rattle.frame.specs.declared.Filters.{Filters}
+use Rattle.frame.specs.declared.Speech.{Speech}
+use Rattle.frame.specs.Parts.{singles}
+use Rattle.frame.specs.Windows.{windows}
+use Rattle.frame.specs.Lines.{lines, stabilised}
+use Rattle.frame.specs.Filters.{filters}
+use Rattle.frame.specs.Weighting.{weighting}
+use Rattle.frame.specs.Pitch.{pitches, shapings}
+
+-- a refused frame: its number, zeros, and the memories as given
+abbrev pub refusal : Coder → ℕ → Frame
+refusal coder n = record {
+  status = n;
+  index = 0;
+  pitch = replicate 2 0;
+  shaping = replicate 4 (record { lag = 0; beta = single 0 1 });
+  a = zeros 44;
+  coder = coder;
+}
+
+-- the four filters one after the other
+abbrev pub joined : Filters → List Float
+joined f = f .a0 ++ f .a1 ++ f .a2 ++ f .a3
+
+-- the memories after a frame: the predictor keeps the quantiser's set, and of the weighted speech the last 145 samples are kept
+abbrev pub after : Quantised → Stabilised → Speech → Coder
+after l s v = record { set = l .set; lines = s .cosines; «x_mem» = v .«x_mem»; «f_mem» = v .«f_mem»; weighted = drop 240 (v .speech) }
+
+unfoldable pub coded : List ℤ → Coder → List Float → Float → Frame
+coded rows coder x hz =
+    let w = windows x in
+    let l = lines rows (w .a3) (coder .set) in
+    let s = stabilised (l .set) hz in
+    let f = filters (coder .lines) (s .cosines) in
+    let v = weighting coder w x in
+    let p = pitches (v .speech) in
+    let h = shapings (v .speech) (p .lags) in
+    answer (firstOf (w .status ∷ l .status ∷ s .status ∷ f .status ∷ v .status ∷ p .status ∷ h .status ∷ [])) (refusal coder)
+    (record { status = 0; index = l .index; pitch = p .lags; shaping = h .settings; a = joined f; coder = after l s v })
+
+-- 8 if there are not 360 samples, before any stage
+unfoldable pub codeFrame : List ℤ → Coder → List ℤ → Float → Frame
+codeFrame rows coder samples hz =
+    answer (first ((8, not (eqb (length samples) 360)) ∷ [])) (refusal coder) (coded rows coder (singles samples) hz)
