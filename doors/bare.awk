@@ -2,9 +2,10 @@
 
 BEGIN {
     print "/* The bare forms of the doors in g7231.h: the same parameters, answers and refusals, and the same promise about"
-    print " * buffers. They do not look at the calling thread's floating-point mode, which must be IEEE's default: round to"
-    print " * nearest, no flushing of subnormals, exceptions masked. In another one their bits change, or an exception stops"
-    print " * the program; and a program that is linked with -ffast-math may start in another one.\n */"
+    print " * buffers; where g7231.h says it of a struct, they take its fields one by one, an array of arrays as one buffer."
+    print " * They do not look at the calling thread's floating-point mode, which must be IEEE's default: round to nearest,"
+    print " * no flushing of subnormals, exceptions masked. In another one their bits change, or an exception stops the"
+    print " * program; and a program that is linked with -ffast-math may start in another one.\n */"
     print "#ifndef G7231_BARE_H\n#define G7231_BARE_H\n\n#include \"g7231.h\"\n"
     print "#ifdef __cplusplus\nextern \"C\" {\n#endif\n"
 }

@@ -15,6 +15,13 @@ BEGIN {
 # An element that is none of these is a struct, by its own name.
 function c_element(element) { return element in c_type ? c_type[element] : element }
 
+# A holder's field as the bare form takes it. The cast makes one buffer of an array of arrays: its first row would be a
+# shorter one to the compiler.
+function c_part(holder, name, way, element, many, row) {
+    if (row > 0) return "(" (way == "Read" ? "const " : "") c_element(element) " *)" holder "->" name
+    return (many == "One" ? "&" : "") holder "->" name
+}
+
 # A parameter as a prototype has it.
 function c_parameter(name, way, element, many, count) {
     return (way == "Read" ? "const " : "") c_element(element) " " (way != "Value" && many != "Fixed" ? "*" : "") name \

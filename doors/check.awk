@@ -12,6 +12,11 @@ function told(way, element, many, count) {
         (many == "Slice" ? "[" element "]" : many == "Fixed" ? "[" element "; " count "]" : element)
 }
 
+# A field likewise.
+function member(name, element, count, row) {
+    return name ":" element (count > 0 ? "[" count "]" : "") (row > 0 ? " in rows of " row : "")
+}
+
 $1 == "door" {
     name = "g7231_" ($3 == 2 ? "bare_" : "") $2
     doors[++count] = name
@@ -24,7 +29,9 @@ $1 == "parameter" && $6 != "Length" {
     names[name, at] = $3
     texts[name, at] = told($4 == "Kept" || $4 == "Made" ? "Lent" : $4, $5, $6, $7)
 }
-$1 == "field" { fields[$2] = fields[$2] " " $3 ":" $4 ($5 > 0 ? "[" $5 "]" : "") }
+# the fields of a struct in parts are parameters
+$1 == "struct" { whole = !$3 }
+$1 == "field" && whole { fields[$2] = fields[$2] " " member($3, $4, $5, $6) }
 
 $1 == "exported" { exported[$2] = 1; order[++exports] = $2 }
 $1 == "takes" {
@@ -32,7 +39,7 @@ $1 == "takes" {
     its_names[$2, at] = $3
     its_texts[$2, at] = told($4, $5, $6, $7)
 }
-$1 == "shape" { shapes[$2] = shapes[$2] " " $3 ":" $4 ($5 > 0 ? "[" $5 "]" : "") }
+$1 == "shape" { shapes[$2] = shapes[$2] " " member($3, $4, $5, $6) }
 
 END {
     for (i = 1; i <= count; i++) {

@@ -3,7 +3,7 @@
 #
 #   exported   NAME LINE
 #   takes      NAME PARAMETER WAY ELEMENT MANY COUNT    WAY: Read, Lent (&mut) or Value; a slice is one parameter here
-#   shape      STRUCT FIELD ELEMENT COUNT
+#   shape      STRUCT FIELD ELEMENT COUNT ROW
 #
 # Variable: exports, how the names of the files begin whose functions count.
 
@@ -34,13 +34,18 @@ function element_of(text) {
     return "g7231_" tolower(text)
 }
 
-# `T` or `[T; N]`: sets kind and many.
-function array_of(text,  list) {
-    many = 0
+# `T`, `[T; N]` or `[[T; ROW]; N]`: sets kind, row and many.
+function array_of(text,  list, n, i, size) {
+    many = row = 0
     if (text ~ /^\[.*;.*\]$/) {
-        split(substr(text, 2, length(text) - 2), list, / *; */)
-        many = list[2] in number ? number[list[2]] : list[2]
-        if (many !~ /^[0-9]+$/) fail(FNR, "the length `" many "` is no number and no const before it")
+        gsub(/[][]/, "", text)
+        n = split(text, list, / *; */)
+        for (i = 2; i <= n; i++) {
+            size = list[i] in number ? number[list[i]] : list[i]
+            if (size !~ /^[0-9]+$/) fail(FNR, "the length `" size "` is no number and no const before it")
+            many = many ? many * size : size
+            if (n == 3 && i == 2) row = size
+        }
         text = list[1]
     }
     kind = element_of(text)
@@ -63,7 +68,7 @@ structure != "" && /^ *pub [a-z0-9_]+: / {
     sub(/,? *(\/\/.*)?$/, "", text)
     at = index(text, ":")
     array_of(substr(text, at + 2))
-    print "shape", structure, substr(text, 1, at - 1), kind, many
+    print "shape", structure, substr(text, 1, at - 1), kind, many, row
 }
 
 index(FILENAME, exports) == 1 && /^pub extern "C" fn / { head = ""; began = FNR; reading = 1 }

@@ -2,10 +2,10 @@
 
 $1 == "door" { doors[++count] = $2; forms[$2] = $3 }
 $1 == "status" { words[$3] = $4; if ($3 + 0 > last) last = $3 + 0 }
+$1 == "holder" { add(parameters, $2, c_parameter($3, $4, $5, "One")) }
 $1 == "parameter" {
-    between = parameters[$2] == "" ? "" : ", "
-    parameters[$2] = parameters[$2] between c_parameter($3, $4, $5, $6, $7)
-    arguments[$2] = arguments[$2] between $3
+    if ($9 == "") add(parameters, $2, c_parameter($3, $4, $5, $6, $7))
+    add(arguments, $2, $9 == "" ? $3 : c_part($9, $3, $4, $5, $6, $10))
 }
 
 END {

@@ -3,11 +3,14 @@
 #   version    TEXT
 #   constant   NAME VALUE TEXT
 #   status     NAME VALUE TEXT
-#   struct     NAME
-#   field      STRUCT NAME ELEMENT COUNT              COUNT 0: no array
+#   struct     NAME PARTS                             PARTS: 1 where the bare forms take its fields one by one, else 0
+#   field      STRUCT NAME ELEMENT COUNT ROW TEXT     COUNT 0: no array; ROW, of an array of arrays: elements of each
 #   door       NAME FORMS LINE                        FORMS: 2 with a bare form, 1 without
 #   says       DOOR TEXT                              the door's comment, line by line
-#   parameter  DOOR NAME WAY ELEMENT MANY COUNT ROLE  the words of doors/door.rs; ELEMENT may be a struct's name
+#   holder     DOOR NAME WAY STRUCT                   of the safe form, before the parameters that the bare form has for it
+#   parameter  DOOR NAME WAY ELEMENT MANY COUNT ROLE HOLDER ROW
+#              of the bare form, in the words of doors/door.rs. ELEMENT may be a struct's name. HOLDER and ROW are of a
+#              holder's field; where HOLDER is empty the safe form has the same parameter
 #   refusal    DOOR NUMBER
 #
 # Variables: header, the file's name for messages; roles, the role words, a tab between them.
@@ -123,30 +126,57 @@ function read_enumerator(  list, text) {
     comments = 0
 }
 
-function read_field(  list, n, type, name, many) {
+function read_field(  n, name) {
     if (commenting) fail(FNR, "what a field means stands on its line")
     if (code ~ /^[}] *[a-z0-9_]+ *;$/) {
         name = code
         gsub(/[} ;]/, "", name)
-        print "struct", name
+        print "struct", name, apart
         for (n = 1; n <= fields; n++) print "field", name, field_text[n]
         element[name] = name
+        if (apart) keep_parts(name)
         inside = ""
     } else {
-        type = code
-        if (type !~ /;$/) fail(FNR, "a field has the form `TYPE NAME;` or `TYPE NAME[LENGTH];`")
-        sub(/ *;$/, "", type)
-        many = 0
-        if (match(type, /\[[^]]*\]$/)) {
-            many = length_of(substr(type, RSTART + 1, RLENGTH - 2), FNR)
-            type = substr(type, 1, RSTART - 1)
-        }
-        if (split(type, list, / +/) != 2 || !(list[1] in element) || list[2] !~ name_form)
-            fail(FNR, "a field has the form `TYPE NAME;` or `TYPE NAME[LENGTH];`")
-        field_text[++fields] = list[2] OFS element[list[1]] OFS many
+        read_member(code)
     }
     code = ""
     comments = 0
+}
+
+function read_member(type,  form, list, n, size) {
+    form = "a field has the form `TYPE NAME;`, `TYPE NAME[LENGTH];` or `TYPE NAME[ROWS][LENGTH];`"
+    if (type !~ /;$/) fail(FNR, form)
+    sub(/ *;$/, "", type)
+    for (n = 0; match(type, /\[[^]]*\]$/); n++) {
+        size[n] = length_of(substr(type, RSTART + 1, RLENGTH - 2), FNR)
+        type = substr(type, 1, RSTART - 1)
+    }
+    if (n > 2 || split(type, list, / +/) != 2 || !(list[1] in element) || list[2] !~ name_form) fail(FNR, form)
+    if (list[1] in parts) fail(FNR, list[1] " is taken in parts, so that it can be no field")
+    field_name[++fields] = list[2]
+    field_type[fields] = list[1]
+    field_count[fields] = n == 0 ? 0 : n == 1 ? size[0] : size[0] * size[1]
+    field_row[fields] = n == 2 ? size[0] : 0
+    field_text[fields] = list[2] OFS element[list[1]] OFS field_count[fields] OFS field_row[fields] OFS \
+        (comments ? trim(comment[1]) : "")
+}
+
+# The fields of a struct that the bare forms take one by one.
+function keep_parts(name,  n) {
+    parts[name] = fields
+    for (n = 1; n <= fields; n++) {
+        part_name[name, n] = field_name[n]
+        part_type[name, n] = field_type[n]
+        part_count[name, n] = field_count[n]
+        part_row[name, n] = field_row[n]
+    }
+}
+
+# Whether the comment before a struct says so.
+function is_apart(  i, text) {
+    for (i = 1; i <= comments; i++) text = text " " comment[i]
+    gsub(/ +/, " ", text)
+    return text ~ /bare forms take its fields one by one/
 }
 
 # ---- everything else ends with a semicolon
@@ -162,6 +192,7 @@ function read_statement() {
     if (code ~ /^typedef struct *[a-z0-9_]* *[{]$/) {
         inside = "struct"
         fields = 0
+        apart = is_apart()
         code = ""
         comments = 0
         return
@@ -188,6 +219,8 @@ function read_door(  at, name, list, count, i) {
     for (i in moved) delete moved[i]
     for (i in enough) delete enough[i]
     for (i in listed) delete listed[i]
+    for (i in taken) delete taken[i]
+    for (i in refused) delete refused[i]
     refusals = 0
     read_comment(name)
     print "door", name, forms, began
@@ -196,7 +229,8 @@ function read_door(  at, name, list, count, i) {
     slice = ""
     for (i = 1; i <= count; i++) read_parameter(name, trim(list[i]), i < count ? trim(list[i + 1]) : "")
     for (i in listed)
-        if (listed[i] != "met") fail(began, "g7231_" name ": its comment names `" i "`, which is no parameter")
+        if (listed[i] != "met")
+            fail(began, "g7231_" name ": its comment names `" i "`, which is no parameter and no part of one")
     for (i = 1; i <= refusals; i++) print "refusal", name, refusal[i]
 }
 
@@ -236,6 +270,9 @@ function read_refusal(name, text,  list) {
     split(text, list, /[ :]/)
     if (!(list[1] in status_name) || list[1] == 0) fail(began, "g7231_" name ": " list[1] " is no refusal")
     if (status_name[list[1]] != list[2]) fail(began, "g7231_" name ": " list[1] " is " status_name[list[1]] ", not " list[2])
+    # a refusal that two checks give stands here twice, and counts once
+    if (list[1] in refused) return
+    refused[list[1]] = 1
     refusal[++refusals] = list[1]
 }
 
@@ -266,7 +303,7 @@ function read_item(name, block, text,  at, names, list, count, i, what, it) {
 
 # ---- a parameter
 
-function read_parameter(door, text, following,  list, count, n, constant, type, pointer, it, many, fixed, way) {
+function read_parameter(door, text, following,  list, count, n, constant, type, pointer, it, many, fixed) {
     many = "One"
     fixed = 1
     if (match(text, /\[[^]]*\]$/)) {
@@ -288,34 +325,60 @@ function read_parameter(door, text, following,  list, count, n, constant, type, 
         fail(began, "g7231_" door ": there is no type `" type "` here: uint8_t, int16_t, uint16_t, int32_t, uint32_t, " \
              "size_t, float, double, or a struct that this header has above")
     if (pointer && following ~ /^size_t +([a-z0-9_]*_)?len$/) many = "Slice"
-
-    if (slice != "") {
-        way = "Value"
-        many = "Length"
-    } else if (!pointer && many == "One") {
-        if (constant) fail(began, "g7231_" door ": " it ": a value needs no const")
-        way = "Value"
-    } else if (constant) {
-        way = "Read"
+    if (type in parts) {
+        if (!pointer || many != "One") fail(began, "g7231_" door ": " it " is taken in parts: lend one, `" type " *" it "`")
+        read_parts(door, type, it, constant)
     } else {
-        way = it in role ? "Kept" : "Made"
+        tell(door, it, it, type, many, fixed, way_of(door, it, constant, pointer, many), "", 0)
     }
-    slice = many == "Slice" ? it : ""
+}
 
-    if (it in listed) listed[it] = "met"
-    if ((way == "Value" && many != "Length" || way == "Read") && !(it in role))
-        fail(began, "g7231_" door ": `Takes:` does not say what " it " holds")
-    if ((many == "Length" || way == "Made") && it in role)
-        fail(began, "g7231_" door ": `Takes:` has " it ", which is not read")
-    if (way == "Kept" && !(it in moved))
-        fail(began, "g7231_" door ": " it " is taken and is not const: say `moved on`, or take it out of `Takes:`")
-    if (way != "Kept" && it in moved) fail(began, "g7231_" door ": " it " cannot be moved on")
-    if (many == "Slice") {
-        if (!(it in enough))
-            fail(began, "g7231_" door ": how many elements of " it " are enough? Say it in `Takes:` or `Makes:`")
-        fixed = enough[it]
+# A struct that the bare form takes in parts.
+function read_parts(door, type, it, constant,  n, part, count) {
+    if (forms == 1) fail(began, "g7231_" door ": " it " is taken in parts, which a door without a bare form cannot do")
+    if (it in listed) fail(began, "g7231_" door ": " it " is taken in parts: name them, as `" it "." part_name[type, 1] "`")
+    print "holder", door, it, constant ? "Read" : "Made", type
+    for (n = 1; n <= parts[type]; n++) {
+        part = part_name[type, n]
+        count = part_count[type, n]
+        tell(door, part, it "." part, part_type[type, n], count ? "Fixed" : "One", count ? count : 1,
+             lent_way(it "." part, constant), it, part_row[type, n])
     }
-    print "parameter", door, it, way, element[type], many, fixed, (it in role ? role[it] : "")
+}
+
+# How what is lent is used; `Takes:` has its name as `known_as`.
+function lent_way(known_as, constant) {
+    return constant ? "Read" : known_as in role ? "Kept" : "Made"
+}
+
+# How a parameter is passed that is no struct in parts.
+function way_of(door, it, constant, pointer, many) {
+    if (slice != "") return "Value"
+    if (pointer || many != "One") return lent_way(it, constant)
+    if (constant) fail(began, "g7231_" door ": " it ": a value needs no const")
+    return "Value"
+}
+
+# Prints a parameter, after what its comment must say of it.
+function tell(door, it, known_as, type, many, fixed, way, holder, row) {
+    if (slice != "") many = "Length"
+    slice = many == "Slice" ? it : ""
+    if (it in taken) fail(began, "g7231_" door ": its bare form would have two parameters `" it "`")
+    taken[it] = 1
+    if (known_as in listed) listed[known_as] = "met"
+    if ((way == "Value" && many != "Length" || way == "Read") && !(known_as in role))
+        fail(began, "g7231_" door ": `Takes:` does not say what " known_as " holds")
+    if ((many == "Length" || way == "Made") && known_as in role)
+        fail(began, "g7231_" door ": `Takes:` has " known_as ", which is not read")
+    if (way == "Kept" && !(known_as in moved))
+        fail(began, "g7231_" door ": " known_as " is taken and is not const: say `moved on`, or take it out of `Takes:`")
+    if (way != "Kept" && known_as in moved) fail(began, "g7231_" door ": " known_as " cannot be moved on")
+    if (many == "Slice") {
+        if (!(known_as in enough))
+            fail(began, "g7231_" door ": how many elements of " known_as " are enough? Say it in `Takes:` or `Makes:`")
+        fixed = enough[known_as]
+    }
+    print "parameter", door, it, way, element[type], many, fixed, (known_as in role ? role[known_as] : ""), holder, row
 }
 
 END {

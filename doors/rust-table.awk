@@ -17,23 +17,44 @@ function given(at, way, element, many, count) {
     return "a[" at "]." holds[element] (element ~ /16|U8/ ? " as " rs_element(element) : "")
 }
 
+# Lays a field of a struct in parts out, and copies it back whatever the status: a refused call that alters one shows.
+function lay(door, at, way, field,  copy) {
+    copy = "        std::ptr::copy_nonoverlapping("
+    before[door] = before[door] copy sprintf("a[%d].place.cast(), &mut %s, 1);\n", at, field)
+    if (way != "Read") after[door] = after[door] copy sprintf("&%s, a[%d].place.cast(), 1);\n", field, at)
+}
+
+# A call of one form. The safe form of a struct in parts is called on a struct of the call's own.
+function call(form, door,  safe) {
+    safe = form == 1
+    printf "unsafe fn %s_%s(a: &[Argument]) -> u32 {\n", safe ? "safe" : "bare", door
+    if (safe && door in structs)
+        printf "    unsafe {\n%s%s        let status = g7231_%s(%s);\n%s        status\n    }\n}\n\n", structs[door], \
+            before[door], door, safes[door], after[door]
+    else printf "    unsafe { g7231_%s%s(%s) }\n}\n\n", safe ? "" : "bare_", door, safe ? safes[door] : bares[door]
+}
+
 $1 == "door" { doors[++count] = $2; forms[$2] = $3 }
-$1 == "refusal" { refusals[$2] = refusals[$2] (refusals[$2] == "" ? "" : ", ") $3 }
+$1 == "refusal" { add(refusals, $2, $3) }
+$1 == "holder" {
+    structs[$2] = structs[$2] "        let mut " $3 ": " $5 " = std::mem::zeroed();\n"
+    add(safes, $2, ($4 == "Read" ? "&" : "&mut ") $3)
+}
 $1 == "parameter" {
     at = places[$2]++
     element = $5 in holds ? $5 : "Struct(std::mem::size_of::<" $5 ">())"
     many = $6 == "Fixed" || $6 == "Slice" ? $6 "(" $7 ")" : $6
     row = "            Parameter { name: \"%s\", way: Way::%s, element: Element::%s, many: Many::%s, role: \"%s\" },\n"
     rows[$2] = rows[$2] sprintf(row, $3, $4, element, many, $8)
-    calls[$2] = calls[$2] (at ? ", " : "") given(at, $4, $5, $6, $7)
+    add(bares, $2, given(at, $4, $5, $6, $7))
+    if ($9 == "") add(safes, $2, given(at, $4, $5, $6, $7))
+    else lay($2, at, $4, $9 "." $3)
 }
 
 END {
     for (i = 1; i <= count; i++) {
         door = doors[i]
-        for (form = 1; form <= forms[door]; form++)
-            printf "unsafe fn %s_%s(a: &[Argument]) -> u32 {\n    unsafe { g7231_%s%s(%s) }\n}\n\n", \
-                (form == 1 ? "safe" : "bare"), door, (form == 1 ? "" : "bare_"), door, calls[door]
+        for (form = 1; form <= forms[door]; form++) call(form, door)
     }
     printf "#[allow(dead_code)]\npub static DOORS: [Door; %d] = [\n", count
     for (i = 1; i <= count; i++) {

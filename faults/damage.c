@@ -4,8 +4,8 @@
 
 #define PICK(random, list) ((list)[random_below(random, sizeof(list) / sizeof *(list))])
 
-static const size_t lengths[] = {0,   1,   59,  60,  61,  145, 179, 180, 181, 204,  205,
-                                 206, 264, 265, 266, 325, 384, 385, 386, 1024, 2047, 2048};
+static const size_t lengths[] = {0,   1,   59,  60,  61,  145, 179, 180, 181, 204, 205,  206, 264,
+                                 265, 266, 325, 359, 360, 361, 384, 385, 386, 1024, 2047, 2048};
 
 static const size_t huge[] = {SIZE_MAX,     SIZE_MAX / 2, SIZE_MAX / 4 + 1, (size_t)1 << 62,
                               SIZE_MAX - 3, 1u << 31,     (size_t)1 << 32,  ((size_t)1 << 32) + 180};

@@ -3,6 +3,7 @@
 #include <string.h>
 
 #include "g7231.h"
+#include "inputs.h"
 
 /* lsp_to_lpc(const float lsp[10], float a[11]); volatile, so that the compiler leaves the faults in */
 #define LSP(argument) ((volatile float *)(argument)[0].place)
@@ -87,6 +88,33 @@ static uint32_t loops(const union argument *argument)
     return well(argument);
 }
 
+/* code_frame, which takes structs in parts: its parameters by name */
+static void *of_frame(const union argument *argument, const char *name)
+{
+    const struct door *door = &doors[door_named("code_frame")];
+    for (unsigned i = 0; i < door->count; i++)
+        if (strcmp(door->parameter[i].name, name) == 0) return argument[i].place;
+    return NULL;
+}
+
+static uint32_t coded(const union argument *argument) { return doors[door_named("code_frame")].safe(argument); }
+
+static uint32_t moves_on_refused(const union argument *argument)
+{
+    const uint32_t status = coded(argument);
+    volatile float *const memory = of_frame(argument, "weighted");
+    if (status == G7231_FRAME_LENGTH) memory[144] = 1;
+    return status;
+}
+
+static uint32_t reads_a_361st(const union argument *argument)
+{
+    const volatile int16_t *const samples = of_frame(argument, "samples");
+    const uint32_t status = coded(argument);
+    if (status == G7231_DONE) (void)samples[360];
+    return status;
+}
+
 const struct planted planted[PLANTED] = {
     {"reads one past the end", "lsp_to_lpc", reads_past, 1, "buffer lsp, end at the page"},
     {"reads one before the start", "lsp_to_lpc", reads_before, 1, "buffer lsp, start at the page"},
@@ -99,4 +127,6 @@ const struct planted planted[PLANTED] = {
     {"reads what it is to write", "lsp_to_lpc", reads_answer, 1, "another answer"},
     {"safe is not bare", "lsp_to_lpc", answers_otherwise, 0, "another answer"},
     {"loops for ever", "lsp_to_lpc", loops, 1, "did not come back"},
+    {"moves a memory on and refuses", "code_frame", moves_on_refused, 1, "refused with 8 and altered weighted"},
+    {"reads a 361st sample", "code_frame", reads_a_361st, 1, "buffer samples, end at the page"},
 };

@@ -194,6 +194,26 @@ static unsigned shown(const struct mode *mode, int number, uint64_t turns)
     return count;
 }
 
+static int takes_nothing(const struct door *door)
+{
+    for (unsigned i = 0; i < door->count; i++)
+        if (door->parameter[i].way != MADE) return 0;
+    return 1;
+}
+
+/* A door through whose bare form no mode shows has inputs that tell nothing, unless it has no input. */
+static void look_at_silent(const struct door *door)
+{
+    if (door->bare == door->safe) return;
+    printf("%s: no mode shows through its bare form", door->name);
+    if (takes_nothing(door)) {
+        printf(": it takes nothing, and no mode alters that one answer\n");
+        return;
+    }
+    printf("\nFAILED: so this test shows nothing of it\n");
+    faults++;
+}
+
 static int run(uint64_t turns, uint64_t stops)
 {
     printf("Inputs whose answer a mode changes, or on which it stops the program, through the bare form;\n"
@@ -201,19 +221,22 @@ static int run(uint64_t turns, uint64_t stops)
            (unsigned long long)turns, (unsigned long long)stops, "");
     for (int m = 0; m < MODES; m++) printf(" %5s", modes[m].brief);
     printf("\n");
-    unsigned by_mode[MODES] = {0}, with_bare = 0;
+    unsigned by_mode[MODES] = {0}, by_door[DOORS] = {0}, with_bare = 0;
     for (int number = 0; number < DOORS; number++) {
         printf("%-28s", doors[number].name);
         with_bare += doors[number].bare != doors[number].safe;
         for (int m = 0; m < MODES; m++) {
             const unsigned count = shown(&modes[m], number, modes[m].kind == STOPS ? stops : turns);
             by_mode[m] += count != 0;
+            by_door[number] += count;
             printf(" %5u", count);
             fflush(stdout);
         }
         printf("\n");
     }
     printf("\n");
+    for (int number = 0; number < DOORS; number++)
+        if (by_door[number] == 0) look_at_silent(&doors[number]);
     for (int m = 0; m < MODES; m++) {
         printf("%-16s MXCSR 0x%04x: shows through %u of %u bare forms\n", modes[m].name, modes[m].word, by_mode[m],
                with_bare);
@@ -307,7 +330,8 @@ static const char help[] =
     "                              FILE has each door's two counts of instructions, in the table's order\n"
     "  modes --calls DOOR SIDE N   N calls of a door, bare or safe, for a tool that counts\n"
     "  modes --list                the doors\n\n"
-    "Exit status: 0 every mode shows through a bare form and through no safe one; 1 not; 2 bad usage.\n";
+    "Exit status: 0 every mode shows through a bare form and through no safe one, and a mode through every bare form that\n"
+    "takes something; 1 not; 2 bad usage.\n";
 
 int main(int words, char **word)
 {

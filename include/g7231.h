@@ -1,4 +1,5 @@
-/* Analysis stages of a G.723.1 speech coder, for x86-64.
+/* Analysis stages of a G.723.1 speech coder, for x86-64: a frame of 16-bit samples
+ * in one call, and each stage by itself.
  *
  * Status. Every function but g7231_refusal answers a status: G7231_DONE, or why
  * it refused. A refused call has had no effect: every buffer that it was lent is
@@ -10,18 +11,21 @@
  * host that is sure of IEEE's default mode may call the bare forms, which do not
  * look at it: g7231_bare.h has them.
  *
- * Threads and memory. Every function is reentrant: nothing is kept between calls
- * and nothing is allocated, so any threads may call at once, as long as no one
- * writes a buffer that another call has. A call takes less than 16 KB of stack.
+ * Threads and memory. Every function is reentrant: nothing is allocated, and what
+ * is kept between calls is the caller's. So any threads may call at once, as long
+ * as no one writes a buffer that another call has. A call takes less than 20 KB of
+ * stack.
  *
- * Buffers have the lengths written here and may not be null. Buffers of one call
- * may not overlap, but for this: buffers of floats that are only read (const) may
- * start exactly where one other buffer of floats starts, one of them or all of
- * them. The proofs take buffers as apart; that this holds is tested.
+ * Buffers have the lengths written here and may not be null; a struct is a buffer
+ * too. Buffers of one call may not overlap, but for this: buffers of floats that
+ * are only read (const) may start exactly where one other buffer of floats starts,
+ * one of them or all of them. The proofs take buffers as apart; that this holds is
+ * tested.
  *
- * Words after `Takes:`, up to the comma, say what a parameter holds in a sound
- * call; no function asks for more than its refusals say. What is `moved on` is
- * read and then written for the next call. Parameters not listed are answers.
+ * Words after `Takes:`, up to the comma, say what a parameter, or a field of one,
+ * holds in a sound call; no function asks for more than its refusals say. What is
+ * `moved on` is read and then written for the next call. Parameters not listed are
+ * answers.
  *
  * Compile and link with `pkg-config --cflags --libs g7231`.
  */
@@ -35,7 +39,7 @@
 extern "C" {
 #endif
 
-#define G7231_VERSION "0.3.0"
+#define G7231_VERSION "0.4.0"
 
 enum {
     G7231_ORDER = 10,    /* lines of a set, taps of a filter, values of its memory */
@@ -45,22 +49,74 @@ enum {
     G7231_LAG_MAX = 142, /* the longest pitch lag */
     G7231_PAST = 145,    /* samples that are looked back on */
     G7231_WINDOW = 180,  /* samples of a window of linear prediction */
-    G7231_FRAME = 240    /* samples of a frame */
+    G7231_FRAME = 240,   /* samples of a frame */
+    G7231_SPAN = 360     /* samples that a frame is coded from: 60 before it, its 240, 60 after it */
 };
 
 enum {
-    G7231_DONE = 0,        /* done */
-    G7231_LENGTH = 1,      /* a list of another length than asked for */
-    G7231_CHOICE = 2,      /* no such choice */
-    G7231_PLACE = 3,       /* a place with too few samples around it */
-    G7231_LAG = 4,         /* a lag out of range */
-    G7231_NOT_FINITE = 5,  /* an infinity or a NaN */
-    G7231_MAGNITUDE = 6,   /* a number out of range */
-    G7231_NO_LINE_SET = 7  /* the filter has no set of ten line frequencies */
+    G7231_DONE = 0,         /* done */
+    G7231_LENGTH = 1,       /* a list of another length than asked for */
+    G7231_CHOICE = 2,       /* no such choice */
+    G7231_PLACE = 3,        /* a place with too few samples around it */
+    G7231_LAG = 4,          /* a lag out of range */
+    G7231_NOT_FINITE = 5,   /* an infinity or a NaN */
+    G7231_MAGNITUDE = 6,    /* a number out of range */
+    G7231_NO_LINE_SET = 7,  /* the filter has no set of ten line frequencies */
+    G7231_FRAME_LENGTH = 8  /* a frame of other than 360 samples */
 };
 
 /* What a status means, in words; never null. */
 const char *g7231_refusal(uint32_t status);
+
+/* What a coder keeps between frames, in the caller's memory. The bare forms take
+ * its fields one by one. */
+typedef struct {
+    float set[G7231_ORDER];     /* the line frequencies that the decoder has */
+    float lines[G7231_ORDER];   /* the stabilised line cosines of the last frame */
+    float x_mem[G7231_ORDER];   /* the weighting filter's last inputs, most recent first */
+    float f_mem[G7231_ORDER];   /* and its last outputs */
+    float weighted[G7231_PAST]; /* the weighted speech before the frame, oldest first */
+} g7231_coder;
+
+/* What one frame is coded as. The bare forms take its fields one by one. */
+typedef struct {
+    uint32_t index;           /* of the line frequencies, 24 bits */
+    uint32_t pitch[2];        /* the pitch lag of each half */
+    uint32_t lag[4];          /* the noise shaping of each subframe: its lag */
+    float factor[4];          /* and its factor */
+    float a[4][G7231_FILTER]; /* the filter of each subframe */
+} g7231_frame;
+
+/* A coder before its first frame: the resting set, its cosines, and silence.
+ * Refuses: nothing */
+uint32_t g7231_new_coder(g7231_coder *coder);
+
+/* Codes one frame by the stages below, all but the combined filter, and moves the
+ * coder on to the next. A sample counts as its own value. The line frequencies are
+ * those of the last of the four windows; where its filter has none, the decoded
+ * set is quantised again. The lines are used as g7231_enforce_lsp_stability leaves
+ * them, converged or not.
+ *
+ * While no index is lost, coder->set, coder->lines and frame->a are bit for bit
+ * what a decoder makes of the indices: g7231_decode_lsp_freq after its last set,
+ * g7231_lsp_freq_to_cosines, g7231_enforce_lsp_stability with the same spacing;
+ * then for subframes 0 to 3 g7231_interpolate_lsp after its last cosines, and
+ * g7231_lsp_to_lpc. It starts where g7231_new_coder does.
+ * Takes:
+ *   coder.set: frequencies, moved on
+ *   coder.lines: cosines, moved on
+ *   coder.x_mem, coder.f_mem, coder.weighted: speech, moved on
+ *   samples: speech, 360 samples, of which the frame is the 240 from place 60 on
+ *   spacing_hz: spacing, 0 to 400 Hz
+ * Refuses:
+ *   8 G7231_FRAME_LENGTH: len is not 360
+ *   5 G7231_NOT_FINITE: any of coder->set
+ *   6 G7231_MAGNITUDE: any of coder->set above 65,536 in magnitude
+ *   5 G7231_NOT_FINITE: the spacing
+ *   6 G7231_MAGNITUDE: the spacing below 0 or above 400
+ *   5 G7231_NOT_FINITE: any other of the coder, or any sample that the weighting
+ *     filter makes */
+uint32_t g7231_code_frame(g7231_coder *coder, const int16_t *samples, size_t len, float spacing_hz, g7231_frame *frame);
 
 /* Linear prediction of one window: the filter, the sums of its autocorrelation,
  * and the second reflection.
@@ -76,7 +132,7 @@ uint32_t g7231_lpc_analysis(const float *window, size_t len, float a[G7231_FILTE
  *   a: filter
  * Refuses:
  *   5 G7231_NOT_FINITE: any of the coefficients, a[0] included
- *   7 G7231_NO_LINE_SET: the filter has no such ten; take the last frame's */
+ *   7 G7231_NO_LINE_SET: the filter has no such ten; quantise the decoded set again */
 uint32_t g7231_lpc_to_lsp(const float a[G7231_FILTER], float lsp[G7231_ORDER]);
 
 /* Ten line cosines to frequencies, 0 to 32,768 over half a circle. A cosine

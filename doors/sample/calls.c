@@ -1,9 +1,17 @@
-/* Calls every door of the table, both forms, on valid and on damaged inputs; prints how often each was done and refused. */
+/* Calls every door of the table, both forms, on valid and on damaged inputs; prints whether each was done and how it was
+ * refused. */
 #include <stdio.h>
 #include <string.h>
 
 #include "damage.h"
 #include "g7231.h"
+
+static int altered(const struct door *door, const struct given *given, const union room room[MOST])
+{
+    for (unsigned i = 0; i < door->count; i++)
+        if (is_buffer(&door->parameter[i]) && memcmp(room[i].byte, given->room[i].byte, ROOM_BYTES) != 0) return 1;
+    return 0;
+}
 
 int main(void)
 {
@@ -26,6 +34,10 @@ int main(void)
                     argument[i].place = room[form][i].byte;
                 }
                 told[form] = (form ? door->bare : door->safe)(argument);
+                if (told[form] != 0 && altered(door, &given, room[form])) {
+                    printf("%s: its %s form altered something and refused\n", door->name, form ? "bare" : "safe");
+                    return 1;
+                }
             }
             if (told[0] != told[1] || memcmp(room[0], room[1], sizeof room[0]) != 0 || told[0] >= STATUSES) {
                 printf("%s: its forms differ\n", door->name);

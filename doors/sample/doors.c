@@ -24,3 +24,23 @@ uint32_t g7231_bare_gains(g7231_held_state one, const g7231_held_state two[2], u
     for (int i = 0; i < 2; i++) gains[i + 1] = (uint16_t)two[i].gain;
     return G7231_DONE;
 }
+
+uint32_t g7231_bare_move(float *level, int16_t rows[6], int32_t by, int32_t *total, double each[2])
+{
+#ifdef ALTERS_AND_REFUSES
+    if (by == INT32_MIN) rows[4] ^= 1;
+#endif
+    if (by == INT32_MIN || by == INT32_MAX) return G7231_SUM;
+    if (*level < 0) return G7231_LENGTH;
+    *total = rows[0] + rows[5];
+    for (int i = 0; i < 2; i++) each[i] = *level * rows[3 * i];
+    for (int i = 0; i < 6; i++) rows[i] = (int16_t)(i == 5 ? 7 : rows[i + 1]);
+    *level /= 2;
+    return G7231_DONE;
+}
+
+uint32_t g7231_bare_look(const float *level, const int16_t rows[6], int32_t *last)
+{
+    *last = *level < 1 ? rows[5] : 0;
+    return G7231_DONE;
+}

@@ -28,8 +28,22 @@ typedef struct {
     int16_t gain;           /* one number */
     uint8_t tag[3];         /* some bytes */
     float line[G7231_ROWS]; /* and what C puts between */
+    int16_t grid[2][3];     /* two rows */
     double sum;
 } g7231_held_state;
+
+/* A memory in parts: the bare forms
+ * take its fields one by one. */
+typedef struct {
+    float level;
+    int16_t rows[2][3]; /* as one buffer */
+} g7231_kept;
+
+/* An answer in parts. The bare forms take its fields one by one. */
+typedef struct {
+    int32_t total;
+    double each[2];
+} g7231_told;
 
 /* Three numbers out of six bytes. Has no bare form.
  * Takes:
@@ -58,6 +72,24 @@ uint32_t g7231_mix(const int16_t *rows, size_t rows_len, uint8_t a, int16_t b, u
  *   two: any
  * Refuses: nothing */
 uint32_t g7231_gains(g7231_held_state one, const g7231_held_state two[2], uint16_t gains[3]);
+
+/* Structs in parts: one moved on, one answered.
+ * Takes:
+ *   kept.level: factor, moved on
+ *   kept.rows: speech, moved on
+ *   by: any
+ * Refuses:
+ *   3 G7231_SUM: by is the least number
+ *   1 G7231_LENGTH: the level is below 0
+ *   3 G7231_SUM: by is the greatest number */
+uint32_t g7231_move(g7231_kept *kept, int32_t by, g7231_told *told);
+
+/* A struct in parts that is only read.
+ * Takes:
+ *   kept.level: factor
+ *   kept.rows: any
+ * Refuses: nothing */
+uint32_t g7231_look(const g7231_kept *kept, int32_t *last);
 
 #ifdef __cplusplus
 }

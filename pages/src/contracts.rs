@@ -13,7 +13,12 @@ mod tests;
 
 pub const PAGE: &str = "docs/TRUST.md";
 const LENT: &str = "crates/c_api/specs/Lent.antt#lent";
-const FLAG: &str = "crates/c_api/specs/Lent.antt#flag";
+/// What a door may make of a part that C has in another form.
+const FORMS: [&str; 3] = [
+    "crates/c_api/specs/Lent.antt#flag",
+    "crates/c_api/specs/Frame.antt#lags",
+    "crates/c_api/specs/Frame.antt#factors",
+];
 
 /// The text of every crates/*/src/*.rt, by its path from the top.
 pub fn sources(top: &Path) -> BTreeMap<String, String> {
@@ -276,7 +281,12 @@ fn hold(door: &Door, name: &str, operation: &Operation, sources: &[Source]) -> R
                 if lent.is(LENT) && result.is(RESULT) && before.is(name) =>
             {
                 match &inner[..] {
-                    [flag, Term::Group(inner)] if flag.is(FLAG) => fitting.parts_of(inner),
+                    // two forms of a part are two parts
+                    [form, Term::Group(inner)] if FORMS.iter().any(|one| form.is(one)) => {
+                        let mut parts = fitting.parts_of(inner).filter(|parts| !parts.is_empty());
+                        parts.iter_mut().for_each(|parts| parts.extend(word(form).map(String::from)));
+                        parts
+                    }
                     inner => fitting.parts_of(inner),
                 }
             }

@@ -27,7 +27,7 @@ pub struct Clause {
     pub text: String,
 }
 
-/// The functions of a file, in its order.
+/// The functions of a file, in its order. `Coder::new` has the name `new_coder`, as its door has.
 pub fn functions(text: &str) -> Result<Vec<Function>, String> {
     let text = &without_comments(text);
     let mut all = Vec::new();
@@ -38,9 +38,19 @@ pub fn functions(text: &str) -> Result<Vec<Function>, String> {
         }
         let line = before.lines().next_back().unwrap_or("");
         let public = line.split_whitespace().next() == Some("pub");
-        all.push(function(&text[at + 3..], public)?);
+        let mut found = function(&text[at + 3..], public)?;
+        if let Some(of) = type_around(before) {
+            found.name = format!("{}_{}", found.name, of.to_lowercase());
+        }
+        all.push(found);
     }
     Ok(all)
+}
+
+/// The type in whose `impl` block a text ends.
+fn type_around(text: &str) -> Option<&str> {
+    let block = text.lines().rfind(|line| line.starts_with("impl ") || line.starts_with('}'))?;
+    block.strip_prefix("impl ")?.split_whitespace().next()
 }
 
 fn function(text: &str, public: bool) -> Result<Function, String> {

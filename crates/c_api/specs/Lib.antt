@@ -1,3 +1,4 @@
 -- What lent buffers hold.
+pub mod Frame
 pub mod Lent
 pub mod Memory

@@ -1,0 +1,42 @@
+-- `c_api::lags_of` meets its contract: after i turns the lags of the first i settings stand. Assumes nothing.
+use borrow.Author.Needs.{needs}
+use mathlib.Core.Path.{refl}
+use Prim.Native.Nat.{ℕ, _-_}
+use Rattle.pitch.specs.declared.HnsParams.{HnsParams}
+use Rattle.c_api.proofs.Settings.{Taken, none, more, all}
+use Rattle.c_api.proofs.lags_of.Statement.{statement}
+use Rattle.c_api.proofs.lags_of.Tie as tie
+
+abbrev value : HnsParams → ℕ
+value h = h .lag
+
+abbrev Inv-loop : tie.InvT-loop
+Inv-loop settings out₀ i₀ out i = Taken value settings i out
+
+abbrev μ-loop : tie.MeasureT-loop
+μ-loop settings out₀ i₀ out i = 4 - i
+
+pub lags-of-spec : {M : Type 1} → statement M
+lags-of-spec =
+    tie.close
+    (tie.spec
+    Inv-loop
+    μ-loop
+    -- loop-holds
+    (λ c. none value _ _ refl)
+    -- mul-out
+    (λ c. search needs)
+    -- element-copy-out-out
+    (λ c. search needs)
+    -- mul-out-2
+    (λ c. search needs)
+    -- array-write-out
+    (λ c. search needs)
+    -- add-i
+    (λ c. search needs)
+    -- loop-less
+    (λ c. search needs)
+    -- loop-again
+    (λ c. search (more value))
+    -- returns
+    (λ c. search (all value)))
