@@ -1,6 +1,7 @@
 //! The ratios as a picture: a bar for each row that has one, on a scale in which twice and half are as far from the line
 //! at 1.
 
+use crate::pairs::FRAME;
 use crate::rows::{nanoseconds, Row};
 
 /// A row of the table that has both sides.
@@ -68,7 +69,7 @@ fn drawn(bar: &Bar, scale: &Scale, y: f64) -> String {
     let (one, end) = (scale.place(1.0), scale.place(ratio));
     let faster = ratio <= 1.0;
     let (class, anchor, beside) = if faster { ("faster", "end", end - 6.0) } else { ("slower", "start", end + 6.0) };
-    let weight = if bar.name.contains(' ') { " whole" } else { "" };
+    let weight = if bar.name == FRAME { " whole" } else { "" };
     format!(
         "<g><title>{}: {ratio:.2}</title>\n\
          <text class=\"name{weight}\" x=\"{:.1}\" y=\"{:.1}\" text-anchor=\"end\">{}</text>\n\

@@ -47,6 +47,10 @@ impl Given {
         self.each(name, |values| values.iter().map(|x| *x as f32).collect())
     }
 
+    pub fn shorts(&self, name: &str) -> Vec<Vec<i16>> {
+        self.each(name, |values| values.iter().map(|x| *x as i16).collect())
+    }
+
     pub fn arrays<const N: usize>(&self, name: &str) -> Vec<[f32; N]> {
         self.each(name, |values| std::array::from_fn(|i| values[i] as f32))
     }

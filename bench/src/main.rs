@@ -1,5 +1,6 @@
 //! Times the library's doors and the published Rust side by side, on speech-like inputs.
 
+mod chains;
 mod chart;
 mod given;
 mod measure;
@@ -13,9 +14,10 @@ use std::fs;
 use std::path::PathBuf;
 
 const HELP: &str = "\
-bench: time the doors of the library in their bare forms, each beside the published Rust's function of its name
+bench: time the doors of the library in their bare forms, each beside the published Rust's function of its name; and a frame
+by its door and by the doors of its stages in a chain, both beside the published functions in that chain
 
-  --only NAME    one door alone
+  --only NAME    one door alone; the frame's with both chains
   --batches N    batches of each side of each door, in turn; the median counts (301)
   --seed S       the seed of the inputs (1)
   --counts FILE  instruction counts to print beside the times: lines `NAME rust|ours TOTAL`, over all 32 inputs
@@ -25,8 +27,8 @@ bench: time the doors of the library in their bare forms, each beside the publis
                  instructions that counts inside bench_counted
   --help         this text
 
-It prints a table in markdown, with a dash where the Rust has no such function. The last row is the sum over the calls of
-one frame, from the rows above it. Inputs are drawn by the words with which the header says what a parameter holds.
+It prints a table in markdown, with a dash where the Rust has no such function; the frame comes first, and after the table
+what it takes beside the chain of its doors. Inputs are drawn by the words with which the header says what a parameter holds.
 bench/run builds it, counts instructions and runs it.
 Exit status: 0 done; 1 the Rust is not at hand, a door refuses what is drawn for it, or a file could not be read or
 written; 2 bad usage.
@@ -62,6 +64,9 @@ fn main() {
     let names: Vec<&str> = pairs.iter().map(|pair| pair.name).collect();
     let rows = rows::rows(&names, &times, &counted);
     print!("{}", rows::table(&rows));
+    if let Some(text) = rows::beside(&rows) {
+        print!("\n{text}");
+    }
     if let Some(path) = chart {
         if let Err(why) = fs::write(&path, chart::svg(&rows)) {
             fail(&format!("{}: {why}", path.display()));

@@ -23,14 +23,6 @@ impl Sides {
     pub fn ratio(self) -> Option<f64> {
         Some(self.ours / self.rust?)
     }
-
-    pub fn times(self, n: f64) -> Sides {
-        Sides { rust: self.rust.map(|rust| n * rust), ours: n * self.ours }
-    }
-
-    pub fn plus(self, other: Sides) -> Sides {
-        Sides { rust: self.rust.zip(other.rust).map(|(one, two)| one + two), ours: self.ours + other.ours }
-    }
 }
 
 /// The median time of a call of each pair, in nanoseconds. Every round has a batch of each door and each side, so that

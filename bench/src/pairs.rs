@@ -1,5 +1,6 @@
-//! Each door, and the Rust's function of its name, on inputs that both sides share.
+//! Each door, and the Rust's function of its name or its chain, on inputs that both sides share.
 
+use crate::chains;
 use crate::given::{self, Given};
 use crate::published;
 use oracle::doors::made::DOORS;
@@ -16,12 +17,23 @@ pub struct Pair {
     pub ours: Run,
 }
 
+/// The door of a whole frame, which comes first; and beside it the doors of its stages in a chain.
+pub const FRAME: &str = "code_frame";
+pub const CHAIN: &str = "doors_of_a_frame";
+
 /// The doors, each on inputs of its own.
 pub fn pairs(rust: &Rust, seed: u64, only: Option<&str>) -> Vec<Pair> {
-    let chosen = DOORS.iter().filter(|door| only.is_none_or(|only| only == door.name));
-    let pair = |door| {
+    let (mut first, mut rest) = (Vec::new(), Vec::new());
+    for door in DOORS.iter().filter(|door| only.is_none_or(|only| only == door.name)) {
         let given = Given::new(door, &mut Random::new(seed, 0, 0));
-        Pair { name: door.name, rust: published::run(rust, &given), ours: given::run(&given) }
-    };
-    chosen.map(pair).collect()
+        let pair = |name, ours| Pair { name, rust: published::run(rust, &given), ours };
+        let own = pair(door.name, given::run(&given));
+        if door.name == FRAME {
+            first.extend([own, pair(CHAIN, chains::run(chains::Doors, &given))]);
+        } else {
+            rest.push(own);
+        }
+    }
+    first.extend(rest);
+    first
 }

@@ -1,7 +1,9 @@
-//! The published Rust's functions on the inputs that a door is called on.
+//! The published Rust's functions on the inputs that a door is called on; for a frame, which it has no function for, its
+//! functions in a chain.
 
+use crate::chains;
 use crate::given::Given;
-use crate::pairs::Run;
+use crate::pairs::{Run, FRAME};
 use oracle::reference::{Memory, Rust};
 use std::hint::black_box;
 
@@ -27,6 +29,9 @@ macro_rules! functions {
 
 /// The Rust's function of a door's name, if it has one.
 pub fn run(rust: &Rust, given: &Given) -> Option<Run> {
+    if given.door.name == FRAME {
+        return Some(chains::run(chains::Published(*rust), given));
+    }
     functions! { rust, given;
         lpc_analysis(window: lists) => lpc_analysis(window);
         lpc_to_lsp(a: arrays) => lpc_to_lsp(a);

@@ -1,24 +1,8 @@
-//! The rows of the table: a door each, and the sum over the calls of one frame.
+//! The rows of the table: a door each, and the doors of a frame in a chain.
 
 use crate::measure::Sides;
+use crate::pairs::{CHAIN, FRAME};
 use std::collections::BTreeMap;
-
-/// What one frame calls, and how often.
-pub const FRAME: [(&str, u32); 13] = [
-    ("lpc_analysis", 4),
-    ("lpc_to_lsp", 1),
-    ("lsp_cosines_to_freq", 1),
-    ("lsp_freq_to_cosines", 1),
-    ("quantise_lsp_freq", 1),
-    ("decode_lsp_freq", 1),
-    ("enforce_lsp_stability", 1),
-    ("interpolate_lsp", 4),
-    ("lsp_to_lpc", 4),
-    ("weighting_taps", 4),
-    ("weight_subframe", 4),
-    ("open_loop_pitch", 2),
-    ("harmonic_noise_shaping", 4),
-];
 
 pub struct Row {
     pub name: String,
@@ -28,22 +12,22 @@ pub struct Row {
     pub count: Option<Sides>,
 }
 
-/// A row for each door, and one for the frame where all of its doors are there.
+/// A row for each pair.
 pub fn rows(names: &[&str], times: &[Sides], counts: &BTreeMap<String, Sides>) -> Vec<Row> {
-    let mut all: Vec<Row> = names
-        .iter()
-        .zip(times)
-        .map(|(name, time)| Row { name: name.to_string(), time: *time, count: counts.get(*name).copied() })
-        .collect();
-    let called: Option<Vec<(&Row, f64)>> =
-        FRAME.iter().map(|(name, n)| Some((all.iter().find(|row| row.name == *name)?, f64::from(*n)))).collect();
-    if let Some(called) = called {
-        let none = Sides { rust: Some(0.0), ours: 0.0 };
-        let time = called.iter().fold(none, |sum, (row, n)| sum.plus(row.time.times(*n)));
-        let count = called.iter().try_fold(none, |sum, (row, n)| Some(sum.plus(row.count?.times(*n))));
-        all.push(Row { name: "one frame".to_string(), time, count });
+    let row =
+        |(name, time): (&&str, &Sides)| Row { name: name.to_string(), time: *time, count: counts.get(*name).copied() };
+    names.iter().zip(times).map(row).collect()
+}
+
+/// The frame beside its doors in a chain, both of ours, where both are there.
+pub fn beside(rows: &[Row]) -> Option<String> {
+    let [frame, chain] = [FRAME, CHAIN].map(|name| rows.iter().find(|row| row.name == name));
+    let (frame, chain) = (frame?, chain?);
+    let mut text = format!("`{FRAME}` takes {:.3} of the time of `{CHAIN}`", frame.time.ours / chain.time.ours);
+    if let (Some(own), Some(other)) = (frame.count, chain.count) {
+        text += &format!(", and {:.3} of its instructions", own.ours / other.ours);
     }
-    all
+    Some(text + ".\n")
 }
 
 /// The table in markdown.

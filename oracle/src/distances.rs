@@ -120,3 +120,12 @@ pub fn shaping(seen: &Seen, distances: &mut Distances) {
         distances.count("one side shapes and the other not", seen.gave != seen.published, seen.given);
     }
 }
+
+/// The index stands after the five memories.
+const INDEX: usize = 185;
+
+pub fn frame(seen: &Seen, distances: &mut Distances) {
+    if seen.status == 0 {
+        distances.count("one side has another index", seen.gave[INDEX] != seen.published[INDEX], seen.given);
+    }
+}

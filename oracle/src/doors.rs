@@ -21,7 +21,9 @@ fn kind(parameter: &Parameter) -> Option<Kind> {
         (_, Element::F32, Many::One) => Kind::Singles(1),
         (_, Element::F32, Many::Fixed(n)) => Kind::Singles(n),
         (_, Element::F64, Many::Fixed(n)) => Kind::Doubles(n),
+        (_, Element::U32, Many::Fixed(n)) => Kind::Numbers(n),
         (Way::Read, Element::F32, Many::Slice(_)) => Kind::Samples,
+        (Way::Read, Element::I16, Many::Slice(_)) => Kind::Shorts,
         _ => panic!("the parameter {} has no form in words yet", parameter.name),
     })
 }
@@ -46,21 +48,26 @@ pub fn resting_set() -> [f32; 10] {
 /// Guards on each side of a buffer, in units of 8 bytes.
 const GUARD: usize = 4;
 
-/// Memory lent to a door: the words, with guards before and after.
+/// Memory lent to a door: its elements, with guards before and after.
 struct Buffer {
     store: Vec<u64>,
     before: Vec<u64>,
-    words: usize,
+    /// How many elements it has, and the bytes of each.
+    count: usize,
+    size: usize,
 }
 
 impl Buffer {
-    fn new(words: &[u32], random: &mut Random) -> Buffer {
-        let mut store: Vec<u64> = (0..2 * GUARD + words.len().div_ceil(2)).map(|_| random.next()).collect();
+    /// Of each word so many bytes are an element, the low ones.
+    fn new(words: &[u32], size: usize, random: &mut Random) -> Buffer {
+        let units = (words.len() * size).div_ceil(8);
+        let mut store: Vec<u64> = (0..2 * GUARD + units).map(|_| random.next()).collect();
+        let mask = u64::MAX >> (64 - 8 * size);
         for (i, word) in words.iter().enumerate() {
-            let (unit, shift) = (GUARD + i / 2, 32 * (i % 2));
-            store[unit] = store[unit] & !(0xffff_ffff << shift) | (*word as u64) << shift;
+            let (unit, shift) = place(i, size);
+            store[unit] = store[unit] & !(mask << shift) | (u64::from(*word) & mask) << shift;
         }
-        Buffer { before: store.clone(), store, words: words.len() }
+        Buffer { before: store.clone(), store, count: words.len(), size }
     }
 
     fn start(&mut self) -> *mut u8 {
@@ -69,21 +76,29 @@ impl Buffer {
     }
 
     fn words(&self) -> Vec<u32> {
-        (0..self.words).map(|i| (self.store[GUARD + i / 2] >> (32 * (i % 2))) as u32).collect()
+        let word = |i| {
+            let (unit, shift) = place(i, self.size);
+            (self.store[unit] >> shift) as u32
+        };
+        (0..self.count).map(word).collect()
     }
 
-    /// Whether the guards, and the half unit after an odd number of words, are as they were.
+    /// Whether the guards, and the rest of the last unit, are as they were.
     fn guarded(&self) -> bool {
-        let end = GUARD + self.words / 2;
-        let tail = self.words.div_ceil(2) + GUARD;
+        let (end, shift) = place(self.count, self.size);
         self.store[..GUARD] == self.before[..GUARD]
-            && self.store[tail..] == self.before[tail..]
-            && (self.words.is_multiple_of(2) || self.store[end] >> 32 == self.before[end] >> 32)
+            && self.store[end] >> shift == self.before[end] >> shift
+            && self.store[end + 1..] == self.before[end + 1..]
     }
 
     fn altered(&self) -> bool {
         self.store != self.before
     }
+}
+
+/// The unit that an element stands in, and how many bits stand before it there.
+fn place(i: usize, size: usize) -> (usize, usize) {
+    (GUARD + i * size / 8, i * size % 8 * 8)
 }
 
 /// Patterns that a computation could alter in passing: NaNs that signal and NaNs with a payload.
@@ -114,9 +129,12 @@ impl Frame {
         let mut part = || parts.next().unwrap_or_default();
         let hand = |parameter: &Parameter| match (kind(parameter), parameter.way) {
             (None, _) => Handed::Length,
-            (Some(kind), Way::Made) => Handed::Lent(Buffer::new(&fill(kind.words(), random), random)),
+            (Some(kind), Way::Made) => Handed::Lent(Buffer::new(&fill(kind.words(), random), 4, random)),
             (Some(kind), Way::Value) => Handed::Value(value(kind, part())),
-            (Some(_), Way::Read | Way::Kept) => Handed::Lent(Buffer::new(part(), random)),
+            (Some(kind), Way::Read | Way::Kept) => {
+                let size = if matches!(kind, Kind::Shorts) { 2 } else { 4 };
+                Handed::Lent(Buffer::new(part(), size, random))
+            }
         };
         Frame { door, handed: door.parameters.iter().map(hand).collect() }
     }
@@ -131,7 +149,7 @@ impl Frame {
                 Handed::Value(value) => *value,
                 Handed::Length => Argument { size: length },
                 Handed::Lent(buffer) => {
-                    length = buffer.words;
+                    length = buffer.count;
                     Argument { place: buffer.start() }
                 }
             })

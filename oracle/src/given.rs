@@ -21,7 +21,7 @@ pub fn short(words: &[u32]) -> String {
 
 /// The line of an input.
 pub fn line(operation: &Operation, given: &[u32]) -> String {
-    format!("{} {}", operation.name, short(given))
+    format!("{} {}", operation.name, short(given)).trim_end().to_string()
 }
 
 /// Reads a line.

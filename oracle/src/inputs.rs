@@ -103,8 +103,20 @@ const WORD_LIMITS: [u64; 40] = [
     0xffff_ffff_ffff_ffff,
 ];
 
-/// How a list of samples can be of another length.
+/// Samples of 16 bits at and next to every bound.
+const SHORT_LIMITS: [u32; 12] = [0x8000, 0x8001, 0xbfff, 0xc000, 0xff00, 0xffff, 0, 1, 0x00ff, 0x0100, 0x7ffe, 0x7fff];
+
+/// How a list of samples can be of another length, as singles and as 16 bits.
 const LENGTHS: [usize; 14] = [0, 1, 59, 60, 61, 144, 179, 180, 181, 204, 205, 264, 265, 384];
+const SHORT_LENGTHS: [usize; 8] = [0, 1, 180, 240, 359, 360, 361, 480];
+
+fn lengths(field: &Field) -> &'static [usize] {
+    if field.is_short() {
+        &SHORT_LENGTHS
+    } else {
+        &LENGTHS
+    }
+}
 
 /// Where the inputs of one door come from.
 pub struct Source {
@@ -139,14 +151,21 @@ impl Source {
         self.limit_phases().iter().sum()
     }
 
-    /// How many turns put limits into singles, into whole numbers and into lengths.
-    fn limit_phases(&self) -> [u64; 3] {
+    /// How many turns put limits into singles, into whole numbers, into samples of 16 bits and into lengths.
+    fn limit_phases(&self) -> [u64; 4] {
         let of = |test: fn(&Field) -> bool| self.takes.iter().filter(|field| test(field)).count() as u64;
         [
             limits().len() as u64 * 11 * of(Field::is_single),
             WORD_LIMITS.len() as u64 * 3 * of(Field::is_whole),
-            LENGTHS.len() as u64 * 2 * of(Field::is_list),
+            SHORT_LIMITS.len() as u64 * 11 * of(Field::is_short),
+            self.list_lengths().len() as u64 * 2,
         ]
+    }
+
+    /// Each list with each length that it can be of.
+    fn list_lengths(&self) -> Vec<(usize, usize)> {
+        let lists = self.takes.iter().enumerate().filter(|(_, field)| field.is_list());
+        lists.flat_map(|(at, field)| lengths(field).iter().map(move |length| (at, *length))).collect()
     }
 
     /// The fields of a kind, one after the other.
@@ -157,23 +176,20 @@ impl Source {
 
     fn limit(&self, random: &mut Random, turn: u64) -> Parts {
         let mut parts = (self.likely)(random);
-        let [singles, scalars, _] = self.limit_phases();
+        let [singles, scalars, shorts, _] = self.limit_phases();
         if turn < singles {
             let (limit, round) = in_turn(limits(), turn);
-            let part = &mut parts[self.field_of(Field::is_single, round)];
-            // Each place of a short list in turn and then all; the ends, any and all of a long one.
-            let place = match part.len() {
-                n @ 0..=11 => (round + turn) as usize % (n + 1),
-                n => [0, n - 1, n, random.below(n), random.below(n)][random.below(5)],
-            };
-            set_limit(part, place, limit);
+            set_limit(&mut parts[self.field_of(Field::is_single, round)], limit, round + turn, random);
         } else if turn < singles + scalars {
             let (limit, round) = in_turn(&WORD_LIMITS, turn - singles);
             let at = self.field_of(Field::is_whole, round);
             parts[at] = scalar(&self.takes[at], limit);
+        } else if turn < singles + scalars + shorts {
+            let (limit, round) = in_turn(&SHORT_LIMITS, turn - singles - scalars);
+            set_limit(&mut parts[self.field_of(Field::is_short, round)], limit, round + turn, random);
         } else {
-            let (length, round) = in_turn(&LENGTHS, turn - singles - scalars);
-            parts[self.field_of(Field::is_list, round)].resize(length, 0x3f00_0000);
+            let ((at, length), _) = in_turn(&self.list_lengths(), turn - singles - scalars - shorts);
+            parts[at].resize(length, if self.takes[at].is_short() { 0x3f00 } else { 0x3f00_0000 });
         }
         parts
     }
@@ -181,10 +197,16 @@ impl Source {
     /// A few words of a likely input replaced by a limit, a neighbour, the opposite or random bits.
     fn damaged(&self, random: &mut Random) -> Parts {
         let mut parts = (self.likely)(random);
+        // A door that takes nothing has nothing to damage.
+        if parts.is_empty() {
+            return parts;
+        }
         for _ in 0..1 + random.below(3) {
             let at = random.below(parts.len());
             let (field, part) = (&self.takes[at], &mut parts[at]);
-            if !field.is_single() {
+            if field.is_short() {
+                damage_shorts(part, random);
+            } else if !field.is_single() {
                 let limit = *random.pick(&WORD_LIMITS);
                 *part = scalar(field, if random.once_in(4) { random.next() } else { limit });
             } else if !part.is_empty() {
@@ -206,7 +228,8 @@ impl Source {
         parts
     }
 
-    /// Every single of a likely input replaced by random bits: any at all, or with exponents in one band.
+    /// Every single and every sample of 16 bits of a likely input replaced by random bits: the singles any at all, or with
+    /// exponents in one band.
     fn random_bits(&self, random: &mut Random) -> Parts {
         let mut parts = (self.likely)(random);
         let bands = [(0, 254), (0, 142), (100, 142), (100, 126), (120, 130), (0, 3)];
@@ -220,6 +243,8 @@ impl Source {
                         Some((low, high)) => banded(random, low, high),
                     };
                 }
+            } else if field.is_short() {
+                part.iter_mut().for_each(|word| *word = random.bits() >> 16);
             }
         }
         parts
@@ -232,11 +257,32 @@ fn in_turn<T: Copy>(list: &[T], turn: u64) -> (T, u64) {
     (list[(turn % count) as usize], turn / count)
 }
 
-/// A limit at a place of a list, or everywhere.
-fn set_limit(part: &mut [u32], place: usize, limit: u32) {
+/// A limit at a place of a list, or everywhere: each place of a short list by the turn and then all; the ends, any and all
+/// of a long one.
+fn set_limit(part: &mut [u32], limit: u32, turn: u64, random: &mut Random) {
+    let place = match part.len() {
+        n @ 0..=11 => turn as usize % (n + 1),
+        n => [0, n - 1, n, random.below(n), random.below(n)][random.below(5)],
+    };
     match part.get_mut(place) {
         Some(word) => *word = limit,
         None => part.fill(limit),
+    }
+}
+
+/// A sample of 16 bits replaced by a limit, its neighbour, its opposite or any; now and then a list of another length.
+fn damage_shorts(part: &mut Vec<u32>, random: &mut Random) {
+    let Some(last) = part.len().checked_sub(1) else { return };
+    let place = random.below(last + 1);
+    let old = part[place];
+    part[place] = match random.below(4) {
+        0 => *random.pick(&SHORT_LIMITS),
+        1 => old.wrapping_add(1) & 0xffff,
+        2 => old.wrapping_neg() & 0xffff,
+        _ => random.bits() >> 16,
+    };
+    if random.once_in(8) {
+        part.resize(*random.pick(&SHORT_LENGTHS), old);
     }
 }
 

@@ -2,14 +2,17 @@
 //!
 //! `shape` says what words an input and an answer have; `inputs` draws them, from what is `likely` and what is `special`,
 //! and `doors` calls the library. `rule` is document 01's cosine, step, angle and gate rules; `reference` adds its
-//! refusals to the Rust's functions. `operations` ties these together, `trial` holds a door's answer to the Rust's,
-//! `runner` does so turn by turn on several threads, and `shrink` makes an input that shows a fault plain. build.rs cuts
-//! the Rust out of its source; where that is missing nothing is compared.
+//! refusals to the Rust's functions. `chain` is a frame as request E2 has it, over any stages, and `frame` is it over
+//! those. `operations` ties these together, `trial` holds a door's answer to the Rust's, `runner` does so turn by turn on
+//! several threads, and `shrink` makes an input that shows a fault plain. build.rs cuts the Rust out of its source; where
+//! that is missing nothing is compared.
 
 pub mod args;
 pub mod both;
+pub mod chain;
 pub mod distances;
 pub mod doors;
+pub mod frame;
 pub mod given;
 #[path = "../../examples/rust/src/hash.rs"]
 pub mod hash;

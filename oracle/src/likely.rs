@@ -1,8 +1,9 @@
 //! A likely input of each operation.
 
+use crate::chain::SPAN;
 use crate::makers::*;
 use crate::random::Random;
-use crate::shape::{bits, word, Parts};
+use crate::shape::{bits, shorts, word, Parts};
 
 pub fn lpc_analysis(random: &mut Random) -> Parts {
     vec![bits(&signal(random, 180))]
@@ -86,4 +87,14 @@ pub fn run_combined(random: &mut Random) -> Parts {
 
 pub fn combined_impulse_response(random: &mut Random) -> Parts {
     combined(random, 1.0)
+}
+
+pub fn new_coder(_: &mut Random) -> Parts {
+    Vec::new()
+}
+
+pub fn code_frame(random: &mut Random) -> Parts {
+    let (set, lines) = (bits(&decoded(random)), bits(&cosines(random)));
+    let [x_mem, f_mem, weighted] = [10, 10, 145].map(|n| short_memory(random, n));
+    vec![set, lines, x_mem, f_mem, weighted, shorts(&short_signal(random, SPAN)), spacing(random)]
 }

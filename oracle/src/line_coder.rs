@@ -1,6 +1,7 @@
 //! The lines of a call, frame by frame: window, coefficients, lines, frequencies, index.
 //!
-//! As document 01's stages stand in a coder, with neither the frame driver's high-pass filter nor its stability pass.
+//! As document 01's stages stand in a coder, with neither the frame driver's high-pass filter nor its stability pass; and
+//! by the library's frame call, whose indices need neither.
 
 use crate::both::rust;
 use crate::doors::made::*;
@@ -70,6 +71,8 @@ fn done(status: u32) {
 }
 
 const FRAME: usize = 240;
+/// How far lines are held apart: the Recommendation's for decoding. No index depends on it.
+const SPACING_HZ: f32 = 31.25;
 /// Where the window of the last subframe starts in its frame, and how long it is: it is centred on the subframe.
 const WINDOW: (usize, usize) = (120, 180);
 
@@ -94,6 +97,22 @@ pub fn indices(coder: &LineCoder, call: &[i16]) -> Vec<u32> {
         all.push(index);
     }
     all
+}
+
+/// The index of each frame by the frame call. Silence stands before the call, where the first window alone looks.
+pub fn frame_indices(call: &[i16]) -> Vec<u32> {
+    let mut samples = vec![0; 60];
+    samples.extend(call);
+    let ten = [0.0; 10];
+    let mut coder = g7231_coder { set: ten, lines: ten, x_mem: ten, f_mem: ten, weighted: [0.0; 145] };
+    done(unsafe { g7231_new_coder(&mut coder) });
+    let code = |start| {
+        let around: &[i16] = &samples[start..start + G7231_SPAN];
+        let mut frame = g7231_frame { index: 0, pitch: [0; 2], lag: [0; 4], factor: [0.0; 4], a: [[0.0; 11]; 4] };
+        done(unsafe { g7231_code_frame(&mut coder, around.as_ptr(), around.len(), SPACING_HZ, &mut frame) });
+        frame.index
+    };
+    (0..call.len() - 60).step_by(FRAME).map(code).collect()
 }
 
 /// The hash of a call's indices.

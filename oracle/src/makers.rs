@@ -69,10 +69,9 @@ pub fn taps(random: &mut Random) -> ([f32; 10], [f32; 10]) {
     )
 }
 
-/// A signal: most often speech-like, else a tone, noise, a repeated pattern, a step, few pulses or silence.
-pub fn signal(random: &mut Random, n: usize) -> Vec<f32> {
-    let shape = random.below(12);
-    let raw: Vec<f64> = match shape {
+/// A signal: most often speech-like, else a tone, noise, a repeated pattern, a step or few pulses.
+fn raw(random: &mut Random, n: usize) -> Vec<f64> {
+    match random.below(12) {
         0 => {
             let (pace, phase) = (random.between(0.0, PI), random.between(0.0, PI));
             (0..n).map(|t| (pace * t as f64 + phase).sin()).collect()
@@ -88,10 +87,27 @@ pub fn signal(random: &mut Random, n: usize) -> Vec<f32> {
         }
         4 => sparse(random, n).into_iter().map(f64::from).collect(),
         _ => piece(random, n),
-    };
+    }
+}
+
+/// The same at some scale.
+pub fn signal(random: &mut Random, n: usize) -> Vec<f32> {
+    let raw = raw(random, n);
     let scale = *random.pick(&[1.0, 1.0, 0.1, 32_768.0, 32_767.0, 1e-3, 1e-38, 1e-44, 1e30]);
     let whole = scale == 32_767.0;
     raw.into_iter().map(|x| if whole { (x * scale).round() as f32 } else { (x * scale) as f32 }).collect()
+}
+
+/// The same or a square wave as samples of 16 bits, from silence to what is cut off at full scale.
+pub fn short_signal(random: &mut Random, n: usize) -> Vec<i16> {
+    let raw = if random.once_in(8) {
+        let half = 1 + random.below(80);
+        (0..n).map(|t| if t / half % 2 == 0 { -1.0 } else { 1.0 }).collect()
+    } else {
+        raw(random, n)
+    };
+    let scale = *random.pick(&[0.0, 1.0, 100.0, 1_000.0, 8_000.0, 8_000.0, 32_768.0, 1e6]);
+    raw.into_iter().map(|x| (x * scale).round() as i16).collect()
 }
 
 /// A few small whole numbers among zeros: sums are exact and ratios tie.
@@ -114,6 +130,11 @@ pub fn spacing(random: &mut Random) -> Vec<u32> {
     let named = [31.25f32, 62.5, 0.0, -0.0, 400.0, 0.1, 2.546479];
     let any = random.between(0.0, 400.0) as f32;
     vec![if random.once_in(3) { any } else { *random.pick(&named) }.to_bits()]
+}
+
+/// What a stage keeps of samples of 16 bits.
+pub fn short_memory(random: &mut Random, n: usize) -> Vec<u32> {
+    bits(&short_signal(random, n).into_iter().map(f32::from).collect::<Vec<_>>())
 }
 
 pub fn memory(random: &mut Random, n: usize) -> Vec<u32> {

@@ -1,4 +1,4 @@
-//! The fifteen operations of document 01: each ties a door to the Rust's answer and to its inputs.
+//! The fifteen operations of document 01 and the two of request E2: each ties a door to the Rust's answer and to its inputs.
 //!
 //! What a door takes and gives is the header's to say. Here stands what the header cannot say.
 
@@ -8,16 +8,22 @@ use crate::doors::{fields, Frame};
 use crate::inputs::Source;
 use crate::likely;
 use crate::random::Random;
-use crate::reference::{self, Answer, Rust};
+use crate::reference::{Answer, Rust};
 use crate::shape::{split, Field, Kind};
 use crate::special;
 use crate::words::Reader;
 use std::sync::LazyLock;
 
+/// The Rust's answer of each: its own function's, or the chain's of a frame.
+mod answers {
+    pub use crate::frame::*;
+    pub use crate::reference::*;
+}
+
 type Measure = fn(&Seen, &mut Distances);
 
 pub struct Operation {
-    /// Its place in document 01, from 1.
+    /// From 1: its place in document 01, and then those of request E2.
     pub number: u32,
     pub name: &'static str,
     pub door: &'static Door,
@@ -39,12 +45,12 @@ macro_rules! operations {
             let (takes, gives) = fields(door);
             let source = Source { takes, likely: likely::$name, special: special::$name };
             let (distance, stored): (Option<Measure>, u64) = ($distance, $stored);
-            Operation { number, name: door.name, door, source, gives, answer: reference::$name, distance, stored }
+            Operation { number, name: door.name, door, source, gives, answer: answers::$name, distance, stored }
         }),*]
     }};
 }
 
-/// In document 01's order: the distance to the published Rust, and how many answers are stored.
+/// In document 01's order, and last those of request E2: the distance to the published Rust, and how many answers are stored.
 pub static OPERATIONS: LazyLock<Vec<Operation>> = LazyLock::new(|| {
     operations! {
         lpc_analysis: None, 80;
@@ -62,6 +68,8 @@ pub static OPERATIONS: LazyLock<Vec<Operation>> = LazyLock::new(|| {
         harmonic_noise_shaping: Some(distances::shaping), 80;
         run_combined: None, 60;
         combined_impulse_response: None, 100;
+        new_coder: None, 1;
+        code_frame: Some(distances::frame), 40;
     }
 });
 
@@ -74,7 +82,7 @@ pub fn named(name: &str) -> Result<&'static Operation, String> {
     OPERATIONS.iter().find(|operation| operation.name == name).ok_or_else(|| format!("the Rust has no function {name}"))
 }
 
-/// The doors that are no operation of document 01, so that the Rust has nothing to hold them to.
+/// The doors that are no such operation, so that the Rust has nothing to hold them to.
 pub fn others() -> Vec<&'static str> {
     DOORS.iter().map(|door| door.name).filter(|name| named(name).is_err()).collect()
 }

@@ -17,6 +17,7 @@ pub struct Memory {
 }
 
 /// The Rust's functions. There are two such sets: as published, and with document 01's rules.
+#[derive(Clone, Copy)]
 pub struct Rust {
     pub lpc_analysis: fn(&[f32]) -> (Eleven, [f64; 11], f32),
     pub lpc_to_lsp: fn(&Eleven) -> Option<Ten>,

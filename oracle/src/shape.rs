@@ -1,7 +1,7 @@
 //! What stands in an input and in an answer: a list of fields, each so many 32-bit words.
 //!
 //! A single is its bits. A double and a machine word (a length, place, half or choice) are two words, high then low.
-//! A list of samples is its length and then its singles.
+//! A list of samples is its length and then its singles, or the 16 bits of each sample in a word.
 
 /// What stands in a field.
 #[derive(Clone, Copy)]
@@ -14,8 +14,12 @@ pub enum Kind {
     Doubles(usize),
     /// A length and as many singles.
     Samples,
+    /// A length and as many samples of 16 bits, signed.
+    Shorts,
     /// 32 bits.
     Number,
+    /// So many of them, lent.
+    Numbers(usize),
     /// A machine word.
     Word,
 }
@@ -24,11 +28,11 @@ impl Kind {
     /// The number of words, where it is fixed.
     pub fn words(self) -> usize {
         match self {
-            Kind::Singles(n) => n,
+            Kind::Singles(n) | Kind::Numbers(n) => n,
             Kind::Doubles(n) => 2 * n,
             Kind::Single | Kind::Number => 1,
             Kind::Word => 2,
-            Kind::Samples => 0,
+            Kind::Samples | Kind::Shorts => 0,
         }
     }
 }
@@ -52,13 +56,18 @@ impl Field {
         matches!(self.kind, Kind::Number | Kind::Word)
     }
 
+    /// Whether its words are samples of 16 bits.
+    pub fn is_short(&self) -> bool {
+        matches!(self.kind, Kind::Shorts)
+    }
+
     /// Whether it has any length.
     pub fn is_list(&self) -> bool {
-        matches!(self.kind, Kind::Samples)
+        matches!(self.kind, Kind::Samples | Kind::Shorts)
     }
 }
 
-/// One list of words a field, so that any of them can be altered alone; of a list of samples the singles alone.
+/// One list of words a field, so that any of them can be altered alone; of a list of samples the samples alone.
 pub type Parts = Vec<Vec<u32>>;
 
 /// The words of some parts: a list of samples gets its length in front. The parts must be those of the fields, so that an
@@ -105,6 +114,11 @@ pub fn split<'a>(fields: &[Field], words: &'a [u32]) -> Result<Vec<&'a [u32]>, S
 /// The words of singles.
 pub fn bits(xs: &[f32]) -> Vec<u32> {
     xs.iter().map(|x| x.to_bits()).collect()
+}
+
+/// The words of samples of 16 bits.
+pub fn shorts(xs: &[i16]) -> Vec<u32> {
+    xs.iter().map(|x| u32::from(*x as u16)).collect()
 }
 
 /// The words of a machine word.

@@ -5,7 +5,7 @@
 
 use crate::makers;
 use crate::operations::Operation;
-use crate::shape::{bits, joined, word, Field, Parts};
+use crate::shape::{bits, joined, shorts, word, Field, Parts};
 
 /// At most so many inputs are tried.
 const TRIALS: u64 = 20_000;
@@ -59,6 +59,9 @@ impl Search<'_> {
     }
 
     fn weight_of(&self, at: usize, field: &Field, part: &[u32]) -> u64 {
+        if field.is_short() {
+            return part.iter().map(|word| 1 + weight_of_short(*word)).sum();
+        }
         if !field.is_whole() {
             return part.iter().enumerate().map(|(i, word)| 1 + weight_of_single(*word, self.rest(at, i))).sum();
         }
@@ -117,7 +120,7 @@ impl Search<'_> {
     }
 
     fn plainer_piece(&mut self, at: usize, start: usize, end: usize) {
-        let fills: &[u32] = if self.takes[at].is_whole() { &[0] } else { &[0, ONE] };
+        let fills: &[u32] = if self.takes[at].is_single() { &[0, ONE] } else { &[0] };
         for fill in fills {
             let mut parts = self.best.clone();
             parts[at][start..end].fill(*fill);
@@ -143,8 +146,9 @@ impl Search<'_> {
                 }) {}
                 continue;
             }
+            let plainer = if self.takes[at].is_short() { plainer_shorts } else { plainer_singles };
             for i in 0..self.best[at].len() {
-                while plainer_singles(self.best[at][i]).into_iter().any(|word| {
+                while plainer(self.best[at][i]).into_iter().any(|word| {
                     let mut parts = self.best.clone();
                     parts[at][i] = word;
                     self.attempt(parts)
@@ -173,6 +177,17 @@ fn weight_of_single(word: u32, rest: u32) -> u64 {
             u64::from(4 + digits + (word >> 31) + u32::from(word >> 23 & 0xff != 127))
         }
     }
+}
+
+/// 0, then by how many digits the magnitude has, and 1 more below 0.
+fn weight_of_short(word: u32) -> u64 {
+    let sample = word as i16;
+    u64::from(16 - sample.unsigned_abs().leading_zeros()) * 2 + u64::from(sample < 0)
+}
+
+fn plainer_shorts(word: u32) -> Vec<u32> {
+    let sample = word as i16;
+    shorts(&[sample.saturating_abs(), sample / 256, sample / 16, sample / 2])
 }
 
 fn plainer_singles(word: u32) -> Vec<u32> {

@@ -316,3 +316,43 @@ pub fn combined_impulse_response(random: &mut Random, turn: u64) -> Parts {
     }
     parts
 }
+
+/// There is nothing to be special.
+pub fn new_coder(random: &mut Random, _: u64) -> Parts {
+    likely::new_coder(random)
+}
+
+/// Spacings at, next to and beyond their bounds; memories that are refused, alone and with such a spacing; memories so large
+/// that the weighting overflows, and so small that it is subnormal; a wrong length with nothing right beside it.
+pub fn code_frame(random: &mut Random, turn: u64) -> Parts {
+    let mut parts = likely::code_frame(random);
+    let [set, lines, x_mem, f_mem, weighted, samples, spacing] = &mut parts[..] else {
+        panic!("a frame has seven parts")
+    };
+    let bad = [0x7fc0_0000, 0x7f80_0000, 0xff80_0000, 0x4780_0001, 0xc788_b800];
+    let bound = *random.pick(&[0.0f32, -0.0, 400.0, 31.25]);
+    let far = *random.pick(&[f32::NAN, f32::INFINITY, -1.0, 401.0]);
+    match turn % 6 {
+        0 => spacing[0] = beside(bound, random.next() % 3),
+        1 => (set[random.below(10)], spacing[0]) = (*random.pick(&bad), far.to_bits()),
+        2 => (lines[random.below(10)], spacing[0]) = (*random.pick(&bad), far.to_bits()),
+        3 => {
+            let scale = *random.pick(&[1e30f32, 1e37, 3e37, 1e-38, 1e-44]);
+            for memory in [x_mem, f_mem] {
+                *memory = bits(&sparse(random, 10).into_iter().map(|x| x * scale).collect::<Vec<_>>());
+            }
+        }
+        4 => {
+            let any = [0x7f7f_ffff, 0xff7f_ffff, 1, 0x8000_0001, 0x8000_0000, 0x7f80_0000, 0x7fc0_0000];
+            for _ in 0..1 + random.below(3) {
+                let at = *random.pick(&[0, 1, 2, 3, 4, 100, 143, 144]);
+                weighted[at] = *random.pick(&any);
+            }
+        }
+        _ => {
+            [set, lines, x_mem, f_mem, weighted, spacing].into_iter().for_each(|part| part.fill(0x7fc0_0000));
+            samples.resize(*random.pick(&[0, 1, 359, 361]), 0);
+        }
+    }
+    parts
+}

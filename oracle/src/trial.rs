@@ -60,9 +60,9 @@ impl Judge {
     }
 }
 
-/// The inputs on which a planted fault shows: at least two words are below zero, read as singles.
+/// The inputs on which a planted fault shows: at least two words are below zero, read as singles, or there is no word.
 pub fn spoils(given: &[u32]) -> bool {
-    given.iter().filter(|word| **word > 0x8000_0000).count() >= 2
+    given.is_empty() || given.iter().filter(|word| **word > 0x8000_0000).count() >= 2
 }
 
 /// The last word of the answer, one bit off.

@@ -1,5 +1,7 @@
 //! Reads and writes the words of inputs and answers, as `shape` has them.
 
+use crate::shape::word;
+
 /// Reads words in order; an input is made by this package, so running out of it is a fault of its own.
 pub struct Reader<'a> {
     rest: &'a [u32],
@@ -33,6 +35,11 @@ impl<'a> Reader<'a> {
         self.words(length).iter().map(|bits| f32::from_bits(*bits)).collect()
     }
 
+    pub fn shorts(&mut self) -> Vec<i16> {
+        let length = self.number() as usize;
+        self.words(length).iter().map(|word| *word as i16).collect()
+    }
+
     pub fn words(&mut self, count: usize) -> &'a [u32] {
         let (words, rest) = self.rest.split_at(count);
         self.rest = rest;
@@ -45,9 +52,22 @@ impl<'a> Reader<'a> {
 pub struct Words(pub Vec<u32>);
 
 impl Words {
+    pub fn reader(&self) -> Reader<'_> {
+        Reader::new(&self.0)
+    }
+
     pub fn number(mut self, n: u32) -> Words {
         self.0.push(n);
         self
+    }
+
+    pub fn numbers(mut self, ns: &[u32]) -> Words {
+        self.0.extend(ns);
+        self
+    }
+
+    pub fn word(self, n: usize) -> Words {
+        self.numbers(&word(n))
     }
 
     pub fn single(self, x: f32) -> Words {
@@ -57,6 +77,11 @@ impl Words {
     pub fn singles(mut self, xs: &[f32]) -> Words {
         self.0.extend(xs.iter().map(|x| x.to_bits()));
         self
+    }
+
+    /// A list of samples, its length first.
+    pub fn samples(self, xs: &[f32]) -> Words {
+        self.number(xs.len() as u32).singles(xs)
     }
 
     pub fn doubles(mut self, xs: &[f64]) -> Words {

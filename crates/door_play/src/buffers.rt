@@ -1,4 +1,4 @@
-// What is lent, and whether it holds what it should. No value here is a NaN or a zero.
+// What is lent, and whether it holds what it should. No value here is a NaN, and none but a new coder's a zero.
 
 // What stands in a lent buffer before the call: no operation here answers it.
 pub const MARK: f32 = 77.0;
@@ -32,6 +32,10 @@ pub fn sixty(one: [f32; 60], other: [f32; 60]) -> bool {
 }
 
 pub fn history(one: [f32; 145], other: [f32; 145]) -> bool {
+    same(&one, &other)
+}
+
+pub fn filters(one: [f32; 44], other: [f32; 44]) -> bool {
     same(&one, &other)
 }
 

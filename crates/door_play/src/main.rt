@@ -4,6 +4,7 @@ mod buffers;
 mod frames;
 mod lines;
 mod samples;
+mod whole;
 
 use libc::STDOUT_FILENO;
 
@@ -53,12 +54,18 @@ fn sample_doors(tally: Tally) -> Tally {
     door(t, b"combined_impulse_response", frames::response())
 }
 
+fn frame_doors(tally: Tally) -> Tally {
+    let t = door(tally, b"new_coder", whole::start());
+    door(t, b"code_frame", whole::code())
+}
+
 fn main() {
     let first = line_doors(Tally {
         passed: 0,
         failed: 0,
     });
-    let tally = sample_doors(first);
+    let second = sample_doors(first);
+    let tally = frame_doors(second);
     io::print_decimal(STDOUT_FILENO, tally.passed);
     io::write_all(STDOUT_FILENO, b" passed, ");
     io::print_decimal(STDOUT_FILENO, tally.failed);

@@ -36,7 +36,7 @@ fn counted(tally: Tally, agrees: bool) -> Tally {
 // A proved loop has to end: it counts its turns down from more records than a list has. A record that cannot be read or
 // that no operation knows ends the run.
 fn replay() -> Tally {
-    let mut words = [0u32; 512];
+    let mut words = [0u32; 1024];
     let mut tally = Tally {
         passed: 0,
         failed: 0,

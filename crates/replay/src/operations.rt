@@ -2,6 +2,7 @@
 // what is given, the status and the results; a refusal's results are zeros, and memories as they were.
 use crate::record::doubles_match;
 use crate::record::load;
+use crate::record::load_shorts;
 use crate::record::matches;
 use crate::record::wide;
 ghost use mathlib.Core.Path.{_≡_};
@@ -16,9 +17,9 @@ fn count(w: u32) -> usize
     w as usize
 }
 
-// The record's length with so many words beside its samples; 0 where there are too many.
-fn with_samples(words: &[u32; 512], others: usize) -> usize {
-    let n = count(words[1]);
+// The length of a record that has so many samples and so many words beside them; 0 where there are too many.
+fn with_samples(samples: u32, others: usize) -> usize {
+    let n = count(samples);
     if n > MOST {
         return 0;
     }
@@ -29,10 +30,10 @@ fn with_samples(words: &[u32; 512], others: usize) -> usize {
 }
 
 // How many words the record has, by its operation; 0 where there is none.
-pub fn length_of(words: &[u32; 512]) -> usize {
+pub fn length_of(words: &[u32; 1024]) -> usize {
     let operation = words[0];
     match operation {
-        1 => with_samples(words, 37),
+        1 => with_samples(words[1], 37),
         2 => 23,
         3 | 4 => 22,
         5 => 33,
@@ -41,17 +42,19 @@ pub fn length_of(words: &[u32; 512]) -> usize {
         8 => 34,
         9 => 23,
         10 => 33,
-        11 => with_samples(words, 123),
-        12 => with_samples(words, 6),
-        13 => with_samples(words, 8),
+        11 => with_samples(words[1], 123),
+        12 => with_samples(words[1], 6),
+        13 => with_samples(words[1], 8),
         14 => 505,
         15 => 95,
+        16 => 187,
+        17 => with_samples(words[186], 429),
         _ => 0,
     }
 }
 
 // Whether the library gives the record's answer.
-pub fn agrees(words: &[u32; 512]) -> bool {
+pub fn agrees(words: &[u32; 1024]) -> bool {
     let operation = words[0];
     match operation {
         1 => lpc_analysis(words),
@@ -69,11 +72,13 @@ pub fn agrees(words: &[u32; 512]) -> bool {
         13 => harmonic_noise_shaping(words),
         14 => run_combined(words),
         15 => combined_impulse_response(words),
+        16 => new_coder(words),
+        17 => code_frame(words),
         _ => false,
     }
 }
 
-fn lpc_analysis(words: &[u32; 512]) -> bool {
+fn lpc_analysis(words: &[u32; 1024]) -> bool {
     let n = count(words[1]);
     if n > 470 {
         return false;
@@ -91,7 +96,7 @@ fn lpc_analysis(words: &[u32; 512]) -> bool {
     (answer.status == words[at]) & same_a & same_r & same_k2
 }
 
-fn lpc_to_lsp(words: &[u32; 512]) -> bool {
+fn lpc_to_lsp(words: &[u32; 1024]) -> bool {
     let mut a = [0.0f32; 11];
     load(words, 1, &mut a);
     let answer = lsp::lpc_to_lsp(a);
@@ -100,7 +105,7 @@ fn lpc_to_lsp(words: &[u32; 512]) -> bool {
     (answer.status == words[12]) & same
 }
 
-fn lsp_cosines_to_freq(words: &[u32; 512]) -> bool {
+fn lsp_cosines_to_freq(words: &[u32; 1024]) -> bool {
     let mut cosines = [0.0f32; 10];
     load(words, 1, &mut cosines);
     let answer = convert::lsp_cosines_to_freq(cosines);
@@ -109,7 +114,7 @@ fn lsp_cosines_to_freq(words: &[u32; 512]) -> bool {
     (answer.status == words[11]) & same
 }
 
-fn lsp_freq_to_cosines(words: &[u32; 512]) -> bool {
+fn lsp_freq_to_cosines(words: &[u32; 1024]) -> bool {
     let mut freq = [0.0f32; 10];
     load(words, 1, &mut freq);
     let answer = convert::lsp_freq_to_cosines(freq);
@@ -118,7 +123,7 @@ fn lsp_freq_to_cosines(words: &[u32; 512]) -> bool {
     (answer.status == words[11]) & same
 }
 
-fn quantise_lsp_freq(words: &[u32; 512]) -> bool {
+fn quantise_lsp_freq(words: &[u32; 1024]) -> bool {
     let mut p = [0.0f32; 10];
     let mut prev = [0.0f32; 10];
     load(words, 1, &mut p);
@@ -129,7 +134,7 @@ fn quantise_lsp_freq(words: &[u32; 512]) -> bool {
     (answer.status == words[21]) & (answer.index == words[22]) & same
 }
 
-fn decode_lsp_freq(words: &[u32; 512]) -> bool {
+fn decode_lsp_freq(words: &[u32; 1024]) -> bool {
     let mut prev = [0.0f32; 10];
     load(words, 2, &mut prev);
     let answer = spec_lsp::decode::decode_lsp_freq(words[1], prev);
@@ -138,7 +143,7 @@ fn decode_lsp_freq(words: &[u32; 512]) -> bool {
     (answer.status == words[12]) & same
 }
 
-fn enforce_lsp_stability(words: &[u32; 512]) -> bool {
+fn enforce_lsp_stability(words: &[u32; 1024]) -> bool {
     let mut cosines = [0.0f32; 10];
     load(words, 1, &mut cosines);
     let spacing = float::of_bits(words[11]);
@@ -148,7 +153,7 @@ fn enforce_lsp_stability(words: &[u32; 512]) -> bool {
     (answer.status == words[12]) & same & ((answer.converged as u32) == words[23])
 }
 
-fn interpolate_lsp(words: &[u32; 512]) -> bool {
+fn interpolate_lsp(words: &[u32; 1024]) -> bool {
     let mut prev = [0.0f32; 10];
     let mut cur = [0.0f32; 10];
     load(words, 3, &mut prev);
@@ -160,7 +165,7 @@ fn interpolate_lsp(words: &[u32; 512]) -> bool {
     (answer.status == words[23]) & same
 }
 
-fn lsp_to_lpc(words: &[u32; 512]) -> bool {
+fn lsp_to_lpc(words: &[u32; 1024]) -> bool {
     let mut lines = [0.0f32; 10];
     load(words, 1, &mut lines);
     let answer = lsp_filter::lsp_to_lpc(lines);
@@ -169,7 +174,7 @@ fn lsp_to_lpc(words: &[u32; 512]) -> bool {
     (answer.status == words[11]) & same
 }
 
-fn weighting_taps(words: &[u32; 512]) -> bool {
+fn weighting_taps(words: &[u32; 1024]) -> bool {
     let mut a = [0.0f32; 11];
     load(words, 1, &mut a);
     let answer = weighting::weighting_taps(a);
@@ -180,7 +185,7 @@ fn weighting_taps(words: &[u32; 512]) -> bool {
     (answer.status == words[12]) & same_zeros & same_poles
 }
 
-fn weighted(words: &[u32; 512], n: usize) -> weighting::Weighted
+fn weighted(words: &[u32; 1024], n: usize) -> weighting::Weighted
     requires { ⌜ n ≤ 380 ⌝ }
 {
     let at = n + 2;
@@ -197,7 +202,7 @@ fn weighted(words: &[u32; 512], n: usize) -> weighting::Weighted
     weighting::weight_subframe(&samples[0..n], wz, wp, x_mem, f_mem)
 }
 
-fn weight_subframe(words: &[u32; 512]) -> bool {
+fn weight_subframe(words: &[u32; 1024]) -> bool {
     let n = count(words[1]);
     if n > 380 {
         return false;
@@ -214,7 +219,7 @@ fn weight_subframe(words: &[u32; 512]) -> bool {
     (answer.status == status) & same_inputs & same_outputs & same_out
 }
 
-fn open_loop_pitch(words: &[u32; 512]) -> bool {
+fn open_loop_pitch(words: &[u32; 1024]) -> bool {
     let n = count(words[1]);
     if n > MOST {
         return false;
@@ -227,7 +232,7 @@ fn open_loop_pitch(words: &[u32; 512]) -> bool {
     (answer.status == words[at + 2]) & (answer.lag == words[at + 3])
 }
 
-fn harmonic_noise_shaping(words: &[u32; 512]) -> bool {
+fn harmonic_noise_shaping(words: &[u32; 1024]) -> bool {
     let n = count(words[1]);
     if n > 500 {
         return false;
@@ -242,7 +247,7 @@ fn harmonic_noise_shaping(words: &[u32; 512]) -> bool {
     (answer.status == words[at + 3]) & (params.lag == words[at + 4]) & same
 }
 
-fn run_combined(words: &[u32; 512]) -> bool {
+fn run_combined(words: &[u32; 1024]) -> bool {
     let mut syn = [0.0f32; 10];
     let mut wz_mem = [0.0f32; 10];
     let mut wp_mem = [0.0f32; 10];
@@ -274,7 +279,7 @@ fn run_combined(words: &[u32; 512]) -> bool {
     (answer.status == words[269]) & same_mem & same_out
 }
 
-fn memory_matches(mem: combined::CombinedMem, words: &[u32; 512]) -> bool {
+fn memory_matches(mem: combined::CombinedMem, words: &[u32; 1024]) -> bool {
     let syn = mem.syn;
     let wz = mem.wz;
     let wp = mem.wp;
@@ -286,7 +291,7 @@ fn memory_matches(mem: combined::CombinedMem, words: &[u32; 512]) -> bool {
     same_syn & same_wz & same_wp & same_hist
 }
 
-fn combined_impulse_response(words: &[u32; 512]) -> bool {
+fn combined_impulse_response(words: &[u32; 1024]) -> bool {
     let mut aq = [0.0f32; 11];
     let mut wz = [0.0f32; 10];
     let mut wp = [0.0f32; 10];
@@ -298,4 +303,89 @@ fn combined_impulse_response(words: &[u32; 512]) -> bool {
     let out = answer.out;
     let same = matches(&out, words, 35);
     (answer.status == words[34]) & same
+}
+
+fn new_coder(words: &[u32; 1024]) -> bool {
+    let coder = frame::Coder::new();
+    let same = coder_matches(coder, words, 2);
+    (words[1] == 0) & same
+}
+
+// The five memories that stand from `at` on.
+fn coder_matches(coder: frame::Coder, words: &[u32; 1024], at: usize) -> bool
+    requires { ⌜ at ≤ 800 ⌝ }
+{
+    let set = coder.set;
+    let lines = coder.lines;
+    let x_mem = coder.x_mem;
+    let f_mem = coder.f_mem;
+    let weighted = coder.weighted;
+    let same_set = matches(&set, words, at);
+    let same_lines = matches(&lines, words, at + 10);
+    let same_inputs = matches(&x_mem, words, at + 20);
+    let same_outputs = matches(&f_mem, words, at + 30);
+    let same_speech = matches(&weighted, words, at + 40);
+    same_set & same_lines & same_inputs & same_outputs & same_speech
+}
+
+fn given_coder(words: &[u32; 1024]) -> frame::Coder {
+    let mut set = [0.0f32; 10];
+    let mut lines = [0.0f32; 10];
+    let mut x_mem = [0.0f32; 10];
+    let mut f_mem = [0.0f32; 10];
+    let mut weighted = [0.0f32; 145];
+    load(words, 1, &mut set);
+    load(words, 11, &mut lines);
+    load(words, 21, &mut x_mem);
+    load(words, 31, &mut f_mem);
+    load(words, 41, &mut weighted);
+    frame::Coder {
+        set,
+        lines,
+        x_mem,
+        f_mem,
+        weighted,
+    }
+}
+
+// The four settings, first the lags and then the factors, stand from `at` on.
+fn shaping_matches(shaping: [pitch::HnsParams; 4], words: &[u32; 1024], at: usize) -> bool
+    requires { ⌜ at ≤ 900 ⌝ }
+{
+    let s0 = shaping[0];
+    let s1 = shaping[1];
+    let s2 = shaping[2];
+    let s3 = shaping[3];
+    let same_lags = (s0.lag == words[at])
+        & (s1.lag == words[at + 1])
+        & (s2.lag == words[at + 2])
+        & (s3.lag == words[at + 3]);
+    let same_0 = float::same_bits(s0.beta, words[at + 4]);
+    let same_1 = float::same_bits(s1.beta, words[at + 5]);
+    let same_2 = float::same_bits(s2.beta, words[at + 6]);
+    let same_3 = float::same_bits(s3.beta, words[at + 7]);
+    same_lags & same_0 & same_1 & same_2 & same_3
+}
+
+fn code_frame(words: &[u32; 1024]) -> bool {
+    let n = count(words[186]);
+    if n > MOST {
+        return false;
+    }
+    let at = n + 188;
+    let mut samples = [0i16; 510];
+    load_shorts(words, 187, &mut samples);
+    let coder = given_coder(words);
+    let spacing = float::of_bits(words[n + 187]);
+    let answer = frame::code_frame(coder, &samples[0..n], spacing);
+    let after = answer.coder;
+    let lags = answer.pitch;
+    let shaping = answer.shaping;
+    let a = answer.a;
+    let same_coder = coder_matches(after, words, at + 1);
+    let same_lags = (lags[0] == words[at + 187]) & (lags[1] == words[at + 188]);
+    let same_shaping = shaping_matches(shaping, words, at + 189);
+    let same_a = matches(&a, words, at + 197);
+    let same_index = answer.index == words[at + 186];
+    (answer.status == words[at]) & same_coder & same_index & same_lags & same_shaping & same_a
 }

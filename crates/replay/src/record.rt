@@ -85,9 +85,9 @@ fn read_word() -> Word {
 }
 
 // Reads the next record to the start of words.
-pub fn read(words: &mut [u32; 512]) -> Record {
+pub fn read(words: &mut [u32; 1024]) -> Record {
     let mut n = 0;
-    while n < 512 {
+    while n < 1024 {
         let next = read_word();
         match next {
             Word::Inner(w) => {
@@ -113,8 +113,8 @@ pub fn read(words: &mut [u32; 512]) -> Record {
 }
 
 // Puts the singles whose patterns stand from `at` on into out.
-pub fn load(words: &[u32; 512], at: usize, out: &mut [f32])
-    requires { ⌜ at + length (now out) ≤ 512 ⌝ }
+pub fn load(words: &[u32; 1024], at: usize, out: &mut [f32])
+    requires { ⌜ at + length (now out) ≤ 1024 ⌝ }
 {
     let mut i = 0;
     while i < out.len() {
@@ -123,12 +123,32 @@ pub fn load(words: &[u32; 512], at: usize, out: &mut [f32])
     }
 }
 
+// The sample that the low 16 bits of w are.
+fn short(w: u32) -> i16 {
+    let low = w % 0x1_0000;
+    if low < 0x8000 {
+        return low as i16;
+    }
+    !((0xffff - low) as i16)
+}
+
+// Puts the samples of 16 bits that stand from `at` on into out.
+pub fn load_shorts(words: &[u32; 1024], at: usize, out: &mut [i16])
+    requires { ⌜ at + length (now out) ≤ 1024 ⌝ }
+{
+    let mut i = 0;
+    while i < out.len() {
+        out[i] = short(words[at + i]);
+        i += 1;
+    }
+}
+
 // The patterns of xs stand from `at` on, any NaN's for any NaN.
-pub fn matches(xs: &[f32], words: &[u32; 512], at: usize) -> bool {
-    if at > 512 {
+pub fn matches(xs: &[f32], words: &[u32; 1024], at: usize) -> bool {
+    if at > 1024 {
         return false;
     }
-    if xs.len() > 512 - at {
+    if xs.len() > 1024 - at {
         return false;
     }
     let mut i = 0;
@@ -155,7 +175,7 @@ fn same_double(x: f64, w: u64) -> bool {
 }
 
 // The patterns of xs, two words each, stand from `at` on. No sum of an accepted window is a NaN.
-pub fn doubles_match(xs: &[f64; 11], words: &[u32; 512], at: usize) -> bool {
+pub fn doubles_match(xs: &[f64; 11], words: &[u32; 1024], at: usize) -> bool {
     if at > 480 {
         return false;
     }

@@ -1,6 +1,7 @@
-// The worked cases of document 01 that are run, E11 to E14, with E11's step as request E1 has it, and the limits of narrowing and of
-// the cosine rule: one line each, and how many passed.
+// The worked cases of document 01 that are run, E11 to E14, with E11's step as request E1 has it, the limits of narrowing and of
+// the cosine rule, and whole frames as request E2 has them: one line each, and how many passed.
 mod cosines;
+mod frames;
 mod frequencies;
 mod lists;
 mod narrowing;
@@ -197,6 +198,74 @@ fn cosine_cases(tally: Tally) -> Tally {
     )
 }
 
+fn frame_cases(tally: Tally) -> Tally {
+    let t = case(
+        tally,
+        b"a filter without ten lines after the resting set has index 0, and the set rests",
+        frames::at_rest(),
+    );
+    let t = case(
+        t,
+        b"a filter without ten lines after another set has index 12,812,705",
+        frames::after_a_set(),
+    );
+    let t = case(
+        t,
+        b"a frame of zeros has index 11,767,742, lags 18 and 18 and no shaping",
+        frames::zeros(),
+    );
+    let t = case(
+        t,
+        b"a second frame of zeros has index 11,505,325, lags 18 and 18 and no shaping",
+        frames::zeros_again(),
+    );
+    let t = case(
+        t,
+        b"a frame of a parabola modulo 2,001 has index 12,876,221, lags 92 and 44 and no shaping",
+        frames::of_parabola(),
+    );
+    let t = case(
+        t,
+        b"a frame of pulses 40 samples apart has index 14,390,718, lags 40 and 40 and shaping at 40",
+        frames::of_pulses(),
+    );
+    let t = case(
+        t,
+        b"a frame of a square of seven samples has index 7,613,739, lags 28 and 28 and shaping at 28",
+        frames::of_square(),
+    );
+    frame_refusals(t)
+}
+
+fn frame_refusals(tally: Tally) -> Tally {
+    let t = case(
+        tally,
+        b"359 and 361 samples are refused with 8, whatever else is wrong",
+        frames::length_first(),
+    );
+    let t = case(
+        t,
+        b"a set of 70,000 is refused with 6 before a spacing that is a NaN",
+        frames::set_before_spacing(),
+    );
+    let t = case(
+        t,
+        b"spacing 401 is refused with 6 before cosines that are NaNs",
+        frames::spacing_before_cosines(),
+    );
+    let t = case(t, b"spacing -0 is taken", frames::minus_zero_taken());
+    let t = case(
+        t,
+        b"an infinity in the weighted speech before the frame is refused with 5",
+        frames::infinite_past(),
+    );
+    case(
+        t,
+        b"a refused frame is zeros, and the coder's memories are as they were",
+        frames::refusal_keeps(),
+    )
+}
+
 fn main() {
     let first = frequency_cases(Tally {
         passed: 0,
@@ -205,7 +274,8 @@ fn main() {
     let second = stage_cases(first);
     let third = narrowing_cases(second);
     let fourth = step_cases(third);
-    let tally = cosine_cases(fourth);
+    let fifth = cosine_cases(fourth);
+    let tally = frame_cases(fifth);
     io::print_decimal(STDOUT_FILENO, tally.passed);
     io::write_all(STDOUT_FILENO, b" passed, ");
     io::print_decimal(STDOUT_FILENO, tally.failed);

@@ -1,7 +1,7 @@
 //! Compares the library with the Rust, operation by operation.
 
 use oracle::args::Args;
-use oracle::given::{self, hex, short};
+use oracle::given::{self, short};
 use oracle::operations::{named, others, Operation, OPERATIONS};
 use oracle::progress::Progress;
 use oracle::random::Random;
@@ -29,13 +29,14 @@ differ: call the door of every function that the Rust has and compare its answer
   --list         print the names of the functions, one a line
   --progress     show progress on standard error even where that is no terminal
   --plant        a check of differ itself: before it is compared, the last word of each answer that is no refusal is
-                 altered by one bit where two words of the input are below zero, read as singles
+                 altered by one bit where two words of the input are below zero, read as singles, or there is no word
   --help         this text
 
 The limits come first, then random bits, speech-like values and damaged copies. Results are compared bit for bit with
 the Rust in which each call of cos, acos and log10 is replaced by document 01's rule, as request E1 changed it; every NaN
-counts as one. After a refusal every lent buffer must be untouched. For functions that call cos, acos or log10 the largest
-distance to the published Rust is printed, with the input that showed it, and held to document 01's bounds.
+counts as one. A frame is compared with the Rust's functions in the chain of request E2, memories included. After a refusal
+every lent buffer must be untouched. For functions that call cos, acos or log10 the largest distance to the published Rust is
+printed, with the input that showed it, and held to document 01's bounds; of a frame, how often its index is another.
 
 An input is fixed by seed, function and turn. The outcome of a seed and a count is the same on any number of threads.
 The run stops at the first difference, the one of the lowest turn, and prints it; then the plainest input found that
@@ -271,7 +272,7 @@ fn line(operation: &Operation, seed: u64, tally: &Tally, began: Instant) -> (Str
             "; {} at most {:.3e} from the published Rust at {}",
             distance.what,
             distance.largest,
-            hex(&distance.shown_by)
+            short(&distance.shown_by)
         );
         if let Some(bound) = distance.bound {
             within &= distance.largest <= bound;
@@ -281,7 +282,7 @@ fn line(operation: &Operation, seed: u64, tally: &Tally, began: Instant) -> (Str
     for count in &tally.distances.counts {
         line += &format!("; {}: {} times", count.what, count.times);
         if count.times > 0 {
-            line += &format!(", first at {}", hex(&count.shown_by));
+            line += &format!(", first at {}", short(&count.shown_by));
         }
     }
     (line, within)

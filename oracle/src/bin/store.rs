@@ -7,7 +7,7 @@ use oracle::random::Random;
 use std::io::Write;
 
 const HELP: &str = "\
-store: write the Rust's answers for the operations of document 01, kept as crates/replay/stdin
+store: write the Rust's answers for the operations of document 01 and of request E2, kept as crates/replay/stdin
 
   --seed S       the seed of the inputs (1)
   --only NAME    one operation alone
@@ -16,11 +16,15 @@ store: write the Rust's answers for the operations of document 01, kept as crate
 A record is a line of words: the operation's number, its input, its status, its results. A word is 8 hexadecimal
 digits and a space, or a line feed after the last of a record: word i of the file starts at byte 9 x i. A single is
 its bits; a double, a length, place, half or choice is two words, high then low; a list of samples is its length in
-one word and then its singles. A NaN among the results is 7fc00000. Refused results are zeros, memories as given.
-Half of an operation's records go through the limits; the inputs of oracle/aimed.txt come last, in its order. The Rust's
-calls of cos, acos and log10 are replaced by document 01's rules.
+one word and then its singles, or the 16 bits of each sample in a word. A NaN among the results is 7fc00000. Refused
+results are zeros, memories as given. Half of an operation's records go through the limits; the inputs of oracle/aimed.txt
+come last, in its order. The operations of document 01 come first with theirs, so that their lines keep their numbers. The
+Rust's calls of cos, acos and log10 are replaced by document 01's rules.
 Exit status: 0 done; 1 the Rust is not at hand; 2 bad usage.
 ";
+
+/// How many operations are document 01's.
+const FIRST: u32 = 15;
 
 /// Inputs that are aimed at one fault each.
 const AIMED: &str = include_str!("../../aimed.txt");
@@ -44,21 +48,29 @@ fn main() {
         words.extend(operation.plain(&answer));
         text += &(hex(&words) + "\n");
     };
-    for operation in &chosen {
-        for turn in turns(operation) {
-            let mut random = Random::new(seed, operation.number, turn);
-            store(operation, operation.source.draw(&mut random, turn));
+    let (first, later): (Vec<&Operation>, Vec<_>) = chosen.into_iter().partition(|one| one.number <= FIRST);
+    for some in [first, later] {
+        for operation in &some {
+            for turn in turns(operation) {
+                let mut random = Random::new(seed, operation.number, turn);
+                store(operation, operation.source.draw(&mut random, turn));
+            }
         }
-    }
-    for line in AIMED.lines().filter(|line| !line.is_empty() && !line.starts_with('#')) {
-        let (operation, given) = parse(line).unwrap_or_else(|why| fail(&format!("oracle/aimed.txt: {why}: {line}")));
-        if chosen.iter().any(|one| one.number == operation.number) {
-            store(operation, given);
+        for (operation, given) in aimed() {
+            if some.iter().any(|one| one.number == operation.number) {
+                store(operation, given);
+            }
         }
     }
     if let Err(why) = std::io::stdout().write_all(text.as_bytes()) {
         fail(&format!("standard output: {why}"));
     }
+}
+
+/// The inputs of oracle/aimed.txt, each with its operation.
+fn aimed() -> impl Iterator<Item = (&'static Operation, Vec<u32>)> {
+    let lines = AIMED.lines().filter(|line| !line.is_empty() && !line.starts_with('#'));
+    lines.map(|line| parse(line).unwrap_or_else(|why| fail(&format!("oracle/aimed.txt: {why}: {line}"))))
 }
 
 /// Half from the limits, evenly over all of them, and half from what follows.

@@ -1,7 +1,7 @@
 //! Codes a call of whole-number speech with the published Rust or with the library, for examples/ticket_118.
 
 use oracle::args::{fail, Args};
-use oracle::line_coder::{hash, indices, ours, published, samples_of, LineCoder};
+use oracle::line_coder::{frame_indices, hash, indices, ours, published, samples_of, LineCoder};
 use oracle::speech::call;
 use std::fs;
 use std::process::exit;
@@ -9,7 +9,7 @@ use std::process::exit;
 const HELP: &str = "\
 ticket_118: code a call with the published Rust or with the library, and print the hash of its indices
 
-  --coder rust|ours   who codes it
+  --coder WHO         rust: the published functions; ours: the library's doors one by one; frame: its frame call
   --seed S            the seed of the call (SEED); its samples are made of whole numbers
   --frames N          frames of 240 samples, 30 ms each (200)
   --store FILE        write the indices there, one a line after a line that names the call
@@ -18,9 +18,17 @@ ticket_118: code a call with the published Rust or with the library, and print t
   --help              this text
 
 A frame: the 180 samples of the last subframe's window, lpc_analysis, lpc_to_lsp (a frame without a line set keeps the
-lines before it), lsp_cosines_to_freq, quantise_lsp_freq against the set before. The hash is FNV-1a, 64 bits.
+lines before it), lsp_cosines_to_freq, quantise_lsp_freq against the set before; or code_frame alone. The hash is FNV-1a,
+64 bits.
 Exit status: 0 done, or the files are the same; 1 they part; 2 bad usage; 3 the coder is not at hand.
 ";
+
+/// The indices of a call.
+type Coder = Box<dyn Fn(&[i16]) -> Vec<u32>>;
+
+fn by_stages(coder: LineCoder) -> Coder {
+    Box::new(move |call| indices(&coder, call))
+}
 
 /// A call on which the published Rust's indices part when a C library's answers move by one unit in the last place.
 const SEED: u64 = 471;
@@ -42,9 +50,10 @@ fn main() {
         args.fail("a call has 1 to 1,000,000 frames");
     }
     let (name, coder) = match coder.as_deref() {
-        Some("rust") => ("the published Rust", published()),
-        Some("ours") => ("the library", Ok(ours())),
-        _ => args.fail("--coder is rust or ours"),
+        Some("rust") => ("the published Rust", published().map(by_stages)),
+        Some("ours") => ("the library", Ok(by_stages(ours()))),
+        Some("frame") => ("the library", Ok(Box::new(frame_indices) as Coder)),
+        _ => args.fail("--coder is rust, ours or frame"),
     };
     args.end();
     let coder = coder.unwrap_or_else(|why| {
@@ -66,8 +75,8 @@ fn main() {
     println!("{name}, seed {seed}, {frames} frames: hash {:016x}", hash(&coded));
 }
 
-fn code(coder: &LineCoder, seed: u64, frames: usize) -> Vec<u32> {
-    indices(coder, &call(seed, samples_of(frames)))
+fn code(coder: &Coder, seed: u64, frames: usize) -> Vec<u32> {
+    coder(&call(seed, samples_of(frames)))
 }
 
 /// Prints where two stored calls part.

@@ -8,7 +8,7 @@ use Rattle.replay.proofs.record.load.Statement.{statement}
 use Rattle.replay.proofs.record.load.Tie as tie
 
 abbrev Inv-loop : tie.InvT-loop
-Inv-loop words at out₀ i₀ out i = (i ≤ length out) × (length out ≡ length out₀) × (at + length out₀ ≤ 512)
+Inv-loop words at out₀ i₀ out i = (i ≤ length out) × (length out ≡ length out₀) × (at + length out₀ ≤ 1024)
 
 abbrev μ-loop : tie.MeasureT-loop
 μ-loop words at out₀ i₀ out i = length out₀ - i

@@ -6,7 +6,7 @@ use Rattle.replay.proofs.record.matches.Statement.{statement}
 use Rattle.replay.proofs.record.matches.Tie as tie
 
 abbrev Inv-loop : tie.InvT-loop
-Inv-loop xs words at i₀ i = (i ≤ length xs) × (at + length xs ≤ 512)
+Inv-loop xs words at i₀ i = (i ≤ length xs) × (at + length xs ≤ 1024)
 
 abbrev μ-loop : tie.MeasureT-loop
 μ-loop xs words at i₀ i = length xs - i

@@ -1,14 +1,14 @@
--- `replay::record::read` is safe and ends: n words are read, at most 512. Assumes nothing.
+-- `replay::record::read` is safe and ends: n words are read, at most 1024. Assumes nothing.
 use Prim.Native.Nat.{_-_, _≤_}
 use borrow.Author.Needs.{needs}
 use Rattle.replay.proofs.record.read.Statement.{statement}
 use Rattle.replay.proofs.record.read.Tie as tie
 
 abbrev Inv-loop : tie.InvT-loop
-Inv-loop words₀ n₀ words n = n ≤ 512
+Inv-loop words₀ n₀ words n = n ≤ 1024
 
 abbrev μ-loop : tie.MeasureT-loop
-μ-loop words₀ n₀ words n = 512 - n
+μ-loop words₀ n₀ words n = 1024 - n
 
 pub read-spec : {M : Type 1} → statement M
 read-spec =
