@@ -1,4 +1,6 @@
-/* Codes a call through the doors and decodes it at the other end, frame by frame, as a host would.
+/* Codes a call twice, frame by frame, and decodes it at the other end, as a host would: by g7231_code_frame, and by the
+ * doors one by one, as a host does that wants what lies between. After every frame the two ways must have the same
+ * bits, and so must the other end in all that it makes of an index.
  *
  * The excitation search is not part of the library: where a coder would send the excitation that it found through
  * g7231_run_combined, this example sends the samples. */
@@ -14,12 +16,16 @@ enum {
     FRAME = G7231_FRAME,
     SUBFRAME = G7231_SUBFRAME,
     PAST = G7231_PAST,
-    WEIGHTED = PAST + FRAME
+    SPAN = G7231_SPAN,
+    AROUND = (SPAN - FRAME) / 2 /* samples looked at before a frame, and after it */
 };
 
-/* ---- hashes of what was answered (FNV-1a, 64 bits, low byte first) */
+static const float spacing_hz = 31.25f;
 
-static uint64_t coded = 14695981039346656037u, answers = 14695981039346656037u;
+/* ---- hashes of what was answered (FNV-1a, 64 bits, low byte first); no struct here has gaps between its fields */
+
+#define NOTHING 14695981039346656037u
+static uint64_t coded = NOTHING, called = NOTHING, stepped = NOTHING, answers = NOTHING;
 
 static void hash(uint64_t *of, const void *what, size_t bytes)
 {
@@ -38,117 +44,148 @@ static void done(uint32_t status, const char *door)
 }
 #define DONE(door, arguments) done(door arguments, #door)
 
-/* ---- both ends */
+/* ---- what both ends do with a set */
 
-struct coder {
-    float set[LINES];   /* line frequencies of the last frame, as the decoder has them */
-    float found[LINES]; /* line cosines of the last frame, not quantised */
-    float lines[LINES]; /* line cosines of the last frame, quantised */
-    float x_mem[LINES], f_mem[LINES];
-    float weighted[WEIGHTED]; /* weighted speech: 145 samples of the past, then the frame */
+/* From a set of line frequencies to the lines of the frame. They are taken whether or not they could be held apart. */
+static void settle(const float set[LINES], float lines[LINES])
+{
+    float cosines[LINES];
+    uint32_t converged;
+    DONE(g7231_lsp_freq_to_cosines, (set, cosines));
+    DONE(g7231_enforce_lsp_stability, (cosines, spacing_hz, lines, &converged));
+    ANSWERED(cosines);
+    hash(&answers, lines, sizeof cosines);
+    ANSWERED(converged);
+}
+
+/* The filter of each subframe, between the last frame's lines and this one's. */
+static void filters(const float last[LINES], const float lines[LINES], float a[4][G7231_FILTER])
+{
+    for (size_t s = 0; s < 4; s++) {
+        float between[LINES];
+        DONE(g7231_interpolate_lsp, (s, last, lines, between));
+        DONE(g7231_lsp_to_lpc, (between, a[s]));
+        ANSWERED(between);
+        hash(&answers, a[s], sizeof a[s]);
+    }
+}
+
+/* ---- the coder, by the doors one by one */
+
+struct taps {
+    float wz[LINES], wp[LINES];
+};
+
+/* The windows' filters, of which the last gives the lines; the others are for weighting alone. */
+static void windows(const float x[SPAN], float a[4][G7231_FILTER], struct taps taps[4])
+{
+    for (int s = 0; s < 4; s++) {
+        double r[G7231_FILTER];
+        float k2;
+        DONE(g7231_lpc_analysis, (x + s * SUBFRAME, G7231_WINDOW, a[s], r, &k2));
+        DONE(g7231_weighting_taps, (a[s], taps[s].wz, taps[s].wp));
+        hash(&answers, a[s], sizeof a[s]);
+        ANSWERED(r);
+        ANSWERED(k2);
+        ANSWERED(taps[s]);
+    }
+}
+
+/* The lines of a filter as an index, and the set that the decoder makes of it. A filter that has no lines (7) refuses
+ * nothing: the set before is quantised in their place. */
+static void quantise(const float a[G7231_FILTER], float set[LINES], uint32_t *index)
+{
+    float found[LINES], freq[LINES], next[LINES];
+    const uint32_t status = g7231_lpc_to_lsp(a, found);
+    ANSWERED(status);
+    if (status == G7231_NO_LINE_SET) {
+        memcpy(freq, set, sizeof freq);
+    } else {
+        done(status, "g7231_lpc_to_lsp");
+        DONE(g7231_lsp_cosines_to_freq, (found, freq));
+        ANSWERED(found);
+    }
+    DONE(g7231_quantise_lsp_freq, (freq, set, index, next));
+    ANSWERED(freq);
+    memcpy(set, next, sizeof next);
+}
+
+/* What g7231_code_frame does, and the weighting taps beside it. */
+static void step(g7231_coder *coder, const float x[SPAN], struct taps taps[4], g7231_frame *frame)
+{
+    float a[4][G7231_FILTER], last[LINES], speech[PAST + FRAME];
+
+    windows(x, a, taps);
+    quantise(a[3], coder->set, &frame->index);
+    memcpy(last, coder->lines, sizeof last);
+    settle(coder->set, coder->lines);
+    filters(last, coder->lines, frame->a);
+
+    memcpy(speech, coder->weighted, sizeof coder->weighted);
+    for (int s = 0; s < 4; s++)
+        DONE(g7231_weight_subframe, (x + AROUND + s * SUBFRAME, SUBFRAME, taps[s].wz, taps[s].wp, coder->x_mem,
+                                     coder->f_mem, speech + PAST + s * SUBFRAME));
+    memcpy(coder->weighted, speech + FRAME, sizeof coder->weighted);
+    ANSWERED(speech);
+
+    for (size_t half = 0; half < 2; half++)
+        DONE(g7231_open_loop_pitch, (speech, PAST + FRAME, half, &frame->pitch[half]));
+    for (size_t s = 0; s < 4; s++)
+        DONE(g7231_harmonic_noise_shaping,
+             (speech, PAST + FRAME, PAST + s * SUBFRAME, frame->pitch[s / 2], &frame->lag[s], &frame->factor[s]));
+}
+
+/* ---- the combined filter, which a search would run */
+
+struct combined {
     float syn[LINES], wz_mem[LINES], wp_mem[LINES], p_hist[PAST];
 };
 
+static void run(struct combined *memory, const float *input, const g7231_frame *frame, int s, const struct taps *taps)
+{
+    float out[SUBFRAME];
+    DONE(g7231_run_combined, (memory->syn, memory->wz_mem, memory->wp_mem, memory->p_hist, input, frame->a[s], taps->wz,
+                              taps->wp, frame->lag[s], frame->factor[s], out));
+    ANSWERED(out);
+}
+
+static void combine(struct combined *memory, const float x[SPAN], const g7231_frame *frame, const struct taps taps[4])
+{
+    for (int s = 0; s < 4; s++) {
+        static const float silence[SUBFRAME];
+        float response[SUBFRAME];
+        DONE(g7231_combined_impulse_response,
+             (frame->a[s], taps[s].wz, taps[s].wp, frame->lag[s], frame->factor[s], response));
+        ANSWERED(response);
+        /* what the filter still rings with, on a copy of its memory */
+        struct combined copy = *memory;
+        run(&copy, silence, frame, s, &taps[s]);
+        run(memory, x + AROUND + s * SUBFRAME, frame, s, &taps[s]);
+    }
+}
+
+/* ---- the other end */
+
 struct decoder {
-    float set[LINES];
-    float lines[LINES];
+    float set[LINES], lines[LINES];
 };
 
-/* From a set of line frequencies to the lines of the frame: held apart, or else the last frame's. */
-static void settle(const float set[LINES], float lines[LINES])
+/* The same set, lines and filters from the index alone. */
+static void decode(struct decoder *decoder, uint32_t index, float a[4][G7231_FILTER])
 {
-    float cosines[LINES], apart[LINES];
-    uint32_t converged;
-    DONE(g7231_lsp_freq_to_cosines, (set, cosines));
-    DONE(g7231_enforce_lsp_stability, (cosines, 31.25f, apart, &converged));
-    ANSWERED(cosines);
-    ANSWERED(apart);
-    ANSWERED(converged);
-    if (converged) memcpy(lines, apart, sizeof apart);
-}
-
-/* Codes the 240 samples at `speech`, which has 60 more before and after them. */
-static uint32_t code(struct coder *coder, const float *speech, uint32_t pitch[2])
-{
-    float a[4][G7231_FILTER], wz[4][LINES], wp[4][LINES], freq[LINES], last[LINES], set[LINES], lsp[LINES];
-    uint32_t index;
-
-    memmove(coder->weighted, coder->weighted + FRAME, PAST * sizeof(float));
-    for (int s = 0; s < 4; s++) {
-        /* a window around the subframe */
-        const float *subframe = speech + s * SUBFRAME;
-        double r[G7231_FILTER];
-        float k2;
-        DONE(g7231_lpc_analysis, (subframe - SUBFRAME, G7231_WINDOW, a[s], r, &k2));
-        ANSWERED(a[s]);
-        ANSWERED(r);
-        ANSWERED(k2);
-        float *weighted = coder->weighted + PAST + s * SUBFRAME;
-        DONE(g7231_weighting_taps, (a[s], wz[s], wp[s]));
-        DONE(g7231_weight_subframe, (subframe, SUBFRAME, wz[s], wp[s], coder->x_mem, coder->f_mem, weighted));
-        ANSWERED(wz[s]);
-        ANSWERED(wp[s]);
-        hash(&answers, weighted, SUBFRAME * sizeof(float));
-    }
-
-    /* the lines of the last subframe; a filter that has none leaves the last frame's */
-    const uint32_t status = g7231_lpc_to_lsp(a[3], coder->found);
-    if (status != G7231_NO_LINE_SET) done(status, "g7231_lpc_to_lsp");
-    ANSWERED(status);
-    ANSWERED(coder->found);
-    DONE(g7231_lsp_cosines_to_freq, (coder->found, freq));
-    DONE(g7231_quantise_lsp_freq, (freq, coder->set, &index, set));
-    ANSWERED(freq);
-    ANSWERED(index);
-    ANSWERED(set);
-    memcpy(coder->set, set, sizeof set);
-    memcpy(last, coder->lines, sizeof last);
-    settle(set, coder->lines);
-
-    for (size_t half = 0; half < 2; half++) {
-        DONE(g7231_open_loop_pitch, (coder->weighted, WEIGHTED, half, &pitch[half]));
-        ANSWERED(pitch[half]);
-    }
-    for (size_t s = 0; s < 4; s++) {
-        static const float silence[SUBFRAME];
-        float aq[G7231_FILTER], input[SUBFRAME], response[SUBFRAME], ringing[SUBFRAME], out[SUBFRAME], beta;
-        uint32_t lag;
-        DONE(g7231_interpolate_lsp, (s, last, coder->lines, lsp));
-        DONE(g7231_lsp_to_lpc, (lsp, aq));
-        DONE(g7231_harmonic_noise_shaping,
-             (coder->weighted, WEIGHTED, PAST + s * SUBFRAME, pitch[s / 2], &lag, &beta));
-        DONE(g7231_combined_impulse_response, (aq, wz[s], wp[s], lag, beta, response));
-        /* what the filter still rings with, on a copy of its memory */
-        struct coder copy = *coder;
-        DONE(g7231_run_combined, (copy.syn, copy.wz_mem, copy.wp_mem, copy.p_hist, silence, aq, wz[s], wp[s], lag, beta,
-                                  ringing));
-        memcpy(input, speech + s * SUBFRAME, sizeof input);
-        DONE(g7231_run_combined, (coder->syn, coder->wz_mem, coder->wp_mem, coder->p_hist, input, aq, wz[s], wp[s], lag,
-                                  beta, out));
-        ANSWERED(lsp);
-        ANSWERED(aq);
-        ANSWERED(lag);
-        ANSWERED(beta);
-        ANSWERED(response);
-        ANSWERED(ringing);
-        ANSWERED(out);
-    }
-    return index;
-}
-
-/* The other end: the same set and the same lines from the index alone. */
-static void decode(struct decoder *decoder, uint32_t index)
-{
-    float set[LINES];
+    float set[LINES], last[LINES];
     DONE(g7231_decode_lsp_freq, (index, decoder->set, set));
     memcpy(decoder->set, set, sizeof set);
+    memcpy(last, decoder->lines, sizeof last);
     settle(set, decoder->lines);
+    filters(last, decoder->lines, a);
 }
 
 /* ---- the file */
 
-/* The samples as numbers from -1 to 1, with 60 zeros before and after; ends the program where it cannot. */
-static float *read_call(const char *name, size_t *frames)
+/* The samples with 60 zeros before and after them, and zeros where the last frame is not whole; ends the program where
+ * it cannot. */
+static int16_t *read_call(const char *name, size_t *frames)
 {
     FILE *file = fopen(name, "rb");
     if (!file) {
@@ -156,34 +193,42 @@ static float *read_call(const char *name, size_t *frames)
         perror(name);
         exit(1);
     }
-    size_t count = 0, room = 1 << 16;
-    float *speech = calloc(room, sizeof *speech);
+    size_t count = 0, room = 1 << 16, got = 0;
+    int16_t *samples = calloc(room, sizeof *samples);
     unsigned char pair[2];
-    size_t got;
-    while (speech && (got = fread(pair, 1, 2, file)) == 2) {
-        if (count + 2 * SUBFRAME >= room) {
-            float *more = realloc(speech, 2 * room * sizeof *speech);
-            if (!more) free(speech);
-            speech = more;
-            if (!speech) break;
-            memset(speech + room, 0, room * sizeof *speech);
+    while (samples && (got = fread(pair, 1, 2, file)) == 2) {
+        if (count + SPAN >= room) {
+            int16_t *more = realloc(samples, 2 * room * sizeof *samples);
+            if (!more) free(samples);
+            samples = more;
+            if (!samples) break;
+            memset(samples + room, 0, room * sizeof *samples);
             room *= 2;
         }
         const int sample = pair[0] | pair[1] << 8;
-        speech[SUBFRAME + count++] = (float)(sample < 32768 ? sample : sample - 65536) / 32768;
+        samples[AROUND + count++] = (int16_t)(sample < 32768 ? sample : sample - 65536);
     }
-    if (!speech) {
-        fprintf(stderr, "call: %s: no memory\n", name);
-        exit(1);
-    }
-    if (ferror(file) || got == 1 || count == 0 || count % FRAME != 0) {
+    if (!samples || ferror(file) || got == 1 || count == 0) {
         fprintf(stderr, "call: %s: %s\n", name,
-                ferror(file) ? "it cannot be read" : "it does not hold whole frames of 240 16-bit samples");
+                !samples       ? "no memory"
+                : ferror(file) ? "it cannot be read"
+                : count == 0   ? "it has no samples"
+                               : "it ends with half a sample");
         exit(1);
     }
     fclose(file);
-    *frames = count / FRAME;
-    return speech;
+    *frames = (count + FRAME - 1) / FRAME;
+    return samples;
+}
+
+/* ---- the call */
+
+/* Ends the program where two have not the same bits. */
+static void same(const void *one, const void *other, size_t bytes, size_t frame, const char *part)
+{
+    if (memcmp(one, other, bytes) == 0) return;
+    fprintf(stderr, "call: frame %zu: %s\n", frame, part);
+    exit(1);
 }
 
 int main(int words, char **word)
@@ -193,29 +238,47 @@ int main(int words, char **word)
     if (words != 2) return fputs(usage, stderr), 2;
 
     size_t frames;
-    float *speech = read_call(word[1], &frames);
-    static struct coder coder;
-    static struct decoder decoder;
-    DONE(g7231_resting_set, (coder.set));
-    DONE(g7231_lsp_freq_to_cosines, (coder.set, coder.lines));
-    memcpy(coder.found, coder.lines, sizeof coder.lines);
-    memcpy(decoder.set, coder.set, sizeof coder.set);
-    memcpy(decoder.lines, coder.lines, sizeof coder.lines);
+    int16_t *samples = read_call(word[1], &frames);
+    static struct combined memory;
+    struct decoder decoder;
+    g7231_coder caller, stepper;
+    DONE(g7231_new_coder, (&caller));
+    DONE(g7231_new_coder, (&stepper));
+    DONE(g7231_resting_set, (decoder.set));
+    DONE(g7231_lsp_freq_to_cosines, (decoder.set, decoder.lines));
 
-    for (size_t frame = 0; frame < frames; frame++) {
-        uint32_t pitch[2];
-        const uint32_t index = code(&coder, speech + SUBFRAME + frame * FRAME, pitch);
-        decode(&decoder, index);
-        if (memcmp(coder.set, decoder.set, sizeof coder.set) != 0 ||
-            memcmp(coder.lines, decoder.lines, sizeof coder.lines) != 0) {
-            fprintf(stderr, "call: frame %zu: the ends have different lines\n", frame);
-            return 1;
-        }
-        hash(&coded, &index, sizeof index);
-        hash(&coded, pitch, sizeof pitch);
-        printf("frame %3zu  index %8" PRIu32 "  lags %3" PRIu32 " %3" PRIu32 "\n", frame, index, pitch[0], pitch[1]);
+    for (size_t k = 0; k < frames; k++) {
+        g7231_frame frame, again;
+        struct taps taps[4];
+        float x[SPAN], a[4][G7231_FILTER];
+
+        DONE(g7231_code_frame, (&caller, samples + k * FRAME, SPAN, spacing_hz, &frame));
+        hash(&coded, &frame.index, sizeof frame.index);
+        hash(&coded, frame.pitch, sizeof frame.pitch);
+        hash(&called, &frame, sizeof frame);
+        hash(&called, &caller, sizeof caller);
+
+        for (int i = 0; i < SPAN; i++) x[i] = samples[k * FRAME + i];
+        step(&stepper, x, taps, &again);
+        hash(&stepped, &again, sizeof again);
+        hash(&stepped, &stepper, sizeof stepper);
+        ANSWERED(again);
+        ANSWERED(stepper);
+        same(&frame, &again, sizeof frame, k, "the frame call and the doors one by one answer differently");
+        same(&caller, &stepper, sizeof caller, k, "the frame call and the doors one by one leave different memories");
+        combine(&memory, x, &frame, taps);
+
+        decode(&decoder, frame.index, a);
+        same(decoder.set, caller.set, sizeof caller.set, k, "the ends have different sets");
+        same(decoder.lines, caller.lines, sizeof caller.lines, k, "the ends have different lines");
+        same(a, frame.a, sizeof a, k, "the ends have different filters");
+        printf("frame %3zu  index %8" PRIu32 "  lags %3" PRIu32 " %3" PRIu32 "\n", k, frame.index, frame.pitch[0],
+               frame.pitch[1]);
     }
-    printf("indices and lags %016" PRIx64 "\nall answers      %016" PRIx64 "\n", coded, answers);
-    free(speech);
+    printf("indices and lags      %016" PRIx64 "\n", coded);
+    printf("the frame call        %016" PRIx64 "\n", called);
+    printf("the doors one by one  %016" PRIx64 "\n", stepped);
+    printf("all answers           %016" PRIx64 "\n", answers);
+    free(samples);
     return 0;
 }

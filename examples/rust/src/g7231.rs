@@ -38,6 +38,26 @@ fn answer<T>(status: u32, made: T) -> Result<T, Refusal> {
     }
 }
 
+/// A coder's memory: [`new_coder`] starts it, and then only [`code_frame`] alters it.
+pub use doors::g7231_coder as Coder;
+/// What a frame is coded as.
+pub use doors::g7231_frame as Frame;
+
+/// The memory of a coder that has coded nothing.
+pub fn new_coder() -> Coder {
+    let ten = [0.0; G7231_ORDER];
+    let mut coder = Coder { set: ten, lines: ten, x_mem: ten, f_mem: ten, weighted: [0.0; G7231_PAST] };
+    unsafe { g7231_new_coder(&mut coder) };
+    coder
+}
+
+/// Codes a frame of 240 samples, given with the 60 before it and the 60 after it.
+pub fn code_frame(coder: &mut Coder, samples: &[i16], spacing_hz: f32) -> Result<Frame, Refusal> {
+    let mut frame = Frame { index: 0, pitch: [0; 2], lag: [0; 4], factor: [0.0; 4], a: [[0.0; G7231_FILTER]; 4] };
+    let status = unsafe { g7231_code_frame(coder, samples.as_ptr(), samples.len(), spacing_hz, &mut frame) };
+    answer(status, frame)
+}
+
 /// Linear prediction of a window: coefficients, sums of the autocorrelation, second reflection.
 #[derive(Clone, Copy, Default)]
 pub struct LpcSet {

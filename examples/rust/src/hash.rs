@@ -17,6 +17,10 @@ impl Hash {
         self.bytes(&number.to_le_bytes());
     }
 
+    pub fn numbers(&mut self, list: &[u32]) {
+        list.iter().for_each(|number| self.number(*number));
+    }
+
     pub fn singles(&mut self, list: &[f32]) {
         list.iter().for_each(|x| self.bytes(&x.to_le_bytes()));
     }

@@ -1,4 +1,5 @@
-//! Codes a call through the doors and decodes it at the other end, as examples/c/call.c does; prints the same lines.
+//! Codes a call by the frame call and by the doors one by one, and decodes it at the other end, as examples/c/call.c
+//! does; prints the same lines.
 
 mod g7231;
 mod hash;
@@ -6,162 +7,212 @@ mod hash;
 use std::process::exit;
 
 use g7231::doors::{
-    G7231_FRAME as FRAME, G7231_NO_LINE_SET, G7231_PAST as PAST, G7231_SUBFRAME as SUBFRAME, G7231_WINDOW as WINDOW,
+    G7231_FRAME as FRAME, G7231_NO_LINE_SET, G7231_PAST as PAST, G7231_SPAN as SPAN, G7231_SUBFRAME as SUBFRAME,
+    G7231_WINDOW as WINDOW,
 };
-use g7231::{CombinedMem, Refusal, Taps, WeightingMem};
+use g7231::{Coder, CombinedMem, Frame, Refusal, Shaping, Taps, WeightingMem};
 use hash::Hash;
 
-const WEIGHTED: usize = PAST + FRAME;
+type Lines = [f32; 10];
+type Filters = [[f32; 11]; 4];
 
-/// From a set of line frequencies to the lines of the frame: held apart, or else the last frame's.
-fn settle(set: &[f32; 10], lines: &mut [f32; 10], answers: &mut Hash) -> Result<(), Refusal> {
+/// Samples looked at before a frame, and after it.
+const AROUND: usize = (SPAN - FRAME) / 2;
+const SPACING_HZ: f32 = 31.25;
+
+/// The subframe of a frame's 360 samples.
+fn subframe(x: &[f32; SPAN], s: usize) -> &[f32; SUBFRAME] {
+    x[AROUND + s * SUBFRAME..].first_chunk().unwrap()
+}
+
+/// From a set of line frequencies to the lines of the frame. They are taken whether or not they could be held apart.
+fn settle(set: &Lines, answers: &mut Hash) -> Result<Lines, Refusal> {
     let cosines = g7231::lsp_freq_to_cosines(set)?;
-    let (apart, converged) = g7231::enforce_lsp_stability(&cosines, 31.25)?;
+    let (lines, converged) = g7231::enforce_lsp_stability(&cosines, SPACING_HZ)?;
     answers.singles(&cosines);
-    answers.singles(&apart);
+    answers.singles(&lines);
     answers.number(converged as u32);
-    if converged {
-        *lines = apart;
+    Ok(lines)
+}
+
+/// The filter of each subframe, between the last frame's lines and this one's.
+fn filters(last: &Lines, lines: &Lines, answers: &mut Hash) -> Result<Filters, Refusal> {
+    let mut a = Filters::default();
+    for (s, a) in a.iter_mut().enumerate() {
+        let between = g7231::interpolate_lsp(s, last, lines)?;
+        *a = g7231::lsp_to_lpc(&between)?;
+        answers.singles(&between);
+        answers.singles(a);
+    }
+    Ok(a)
+}
+
+/// The windows' filters, of which the last gives the lines, and the weighting taps of each.
+fn windows(x: &[f32; SPAN], answers: &mut Hash) -> Result<(Filters, [Taps; 4]), Refusal> {
+    let (mut a, mut taps) = (Filters::default(), [Taps::default(); 4]);
+    for s in 0..4 {
+        let set = g7231::lpc_analysis(&x[s * SUBFRAME..s * SUBFRAME + WINDOW])?;
+        a[s] = set.a;
+        taps[s] = g7231::weighting_taps(&set.a)?;
+        answers.singles(&set.a);
+        answers.doubles(&set.r);
+        answers.singles(&[set.k2]);
+        answers.singles(&taps[s].wz);
+        answers.singles(&taps[s].wp);
+    }
+    Ok((a, taps))
+}
+
+/// The lines of a filter as an index, and the set that the decoder makes of it. A filter that has no lines (7) refuses
+/// nothing: the set before is quantised in their place.
+fn quantise(a: &[f32; 11], set: &Lines, answers: &mut Hash) -> Result<(u32, Lines), Refusal> {
+    let freq = match g7231::lpc_to_lsp(a) {
+        Ok(found) => {
+            answers.number(0);
+            let freq = g7231::lsp_cosines_to_freq(&found)?;
+            answers.singles(&found);
+            freq
+        }
+        Err(Refusal(G7231_NO_LINE_SET)) => {
+            answers.number(G7231_NO_LINE_SET);
+            *set
+        }
+        Err(other) => return Err(other),
+    };
+    answers.singles(&freq);
+    g7231::quantise_lsp_freq(&freq, set)
+}
+
+/// What `code_frame` does, by the doors one by one, and the weighting taps beside it.
+fn step(coder: &mut Coder, x: &[f32; SPAN], answers: &mut Hash) -> Result<(Frame, [Taps; 4]), Refusal> {
+    let (a, taps) = windows(x, answers)?;
+    let (index, set) = quantise(&a[3], &coder.set, answers)?;
+    let lines = settle(&set, answers)?;
+    let a = filters(&coder.lines, &lines, answers)?;
+
+    let mut mem = WeightingMem { x: coder.x_mem, f: coder.f_mem };
+    let mut speech = coder.weighted.to_vec();
+    for s in 0..4 {
+        speech.extend(g7231::weight_subframe(subframe(x, s), &taps[s], &mut mem)?);
+    }
+    answers.singles(&speech);
+    let weighted = *speech.last_chunk().unwrap();
+
+    let pitch = [g7231::open_loop_pitch(&speech, 0)?, g7231::open_loop_pitch(&speech, 1)?];
+    let (mut lag, mut factor) = ([0; 4], [0.0; 4]);
+    for s in 0..4 {
+        let shaping = g7231::harmonic_noise_shaping(&speech, PAST + s * SUBFRAME, pitch[s / 2])?;
+        (lag[s], factor[s]) = (shaping.lag, shaping.beta);
+    }
+    *coder = Coder { set, lines, x_mem: mem.x, f_mem: mem.f, weighted };
+    Ok((Frame { index, pitch, lag, factor, a }, taps))
+}
+
+/// The combined filter of each subframe, which a search would run.
+fn combine(
+    mem: &mut CombinedMem,
+    x: &[f32; SPAN],
+    frame: &Frame,
+    taps: &[Taps; 4],
+    answers: &mut Hash,
+) -> Result<(), Refusal> {
+    for s in 0..4 {
+        let shaping = Shaping { lag: frame.lag[s], beta: frame.factor[s] };
+        let response = g7231::combined_impulse_response(&frame.a[s], &taps[s], shaping)?;
+        // what the filter still rings with, on a copy of its memory
+        let ringing = g7231::run_combined(&mut mem.clone(), &[0.0; SUBFRAME], &frame.a[s], &taps[s], shaping)?;
+        // a coder would send the excitation that it found
+        let out = g7231::run_combined(mem, subframe(x, s), &frame.a[s], &taps[s], shaping)?;
+        for list in [response, ringing, out] {
+            answers.singles(&list);
+        }
     }
     Ok(())
 }
 
-struct Coder {
-    /// Line frequencies of the last frame, as the decoder has them.
-    set: [f32; 10],
-    /// Line cosines of the last frame, not quantised.
-    found: [f32; 10],
-    /// Line cosines of the last frame, quantised.
-    lines: [f32; 10],
-    weighting: WeightingMem,
-    /// Weighted speech: 145 samples of the past, then the frame.
-    weighted: [f32; WEIGHTED],
-    combined: CombinedMem,
-}
-
-impl Coder {
-    /// Codes the 240 samples from place 60 of `speech`, which has 60 more after them.
-    fn code(&mut self, speech: &[f32], answers: &mut Hash) -> Result<(u32, [u32; 2]), Refusal> {
-        let (mut a, mut taps) = ([[0.0; 11]; 4], [Taps::default(); 4]);
-        self.weighted.copy_within(FRAME.., 0);
-        for s in 0..4 {
-            // a window around the subframe
-            let set = g7231::lpc_analysis(&speech[s * SUBFRAME..s * SUBFRAME + WINDOW])?;
-            answers.singles(&set.a);
-            answers.doubles(&set.r);
-            answers.singles(&[set.k2]);
-            a[s] = set.a;
-            taps[s] = g7231::weighting_taps(&set.a)?;
-            let subframe = &speech[(s + 1) * SUBFRAME..(s + 2) * SUBFRAME];
-            let out = g7231::weight_subframe(subframe, &taps[s], &mut self.weighting)?;
-            answers.singles(&taps[s].wz);
-            answers.singles(&taps[s].wp);
-            answers.singles(&out);
-            self.weighted[PAST + s * SUBFRAME..PAST + (s + 1) * SUBFRAME].copy_from_slice(&out);
-        }
-
-        // the lines of the last subframe; a filter that has none leaves the last frame's
-        let status = match g7231::lpc_to_lsp(&a[3]) {
-            Ok(lines) => {
-                self.found = lines;
-                0
-            }
-            Err(Refusal(G7231_NO_LINE_SET)) => G7231_NO_LINE_SET,
-            Err(other) => return Err(other),
-        };
-        answers.number(status);
-        answers.singles(&self.found);
-        let freq = g7231::lsp_cosines_to_freq(&self.found)?;
-        let (index, set) = g7231::quantise_lsp_freq(&freq, &self.set)?;
-        answers.singles(&freq);
-        answers.number(index);
-        answers.singles(&set);
-        self.set = set;
-        let last = self.lines;
-        settle(&set, &mut self.lines, answers)?;
-
-        let mut pitch = [0; 2];
-        for (half, lag) in pitch.iter_mut().enumerate() {
-            *lag = g7231::open_loop_pitch(&self.weighted, half)?;
-            answers.number(*lag);
-        }
-        for s in 0..4 {
-            let lsp = g7231::interpolate_lsp(s, &last, &self.lines)?;
-            let aq = g7231::lsp_to_lpc(&lsp)?;
-            let shaping = g7231::harmonic_noise_shaping(&self.weighted, PAST + s * SUBFRAME, pitch[s / 2])?;
-            let response = g7231::combined_impulse_response(&aq, &taps[s], shaping)?;
-            // what the filter still rings with, on a copy of its memory
-            let mut copy = self.combined;
-            let ringing = g7231::run_combined(&mut copy, &[0.0; 60], &aq, &taps[s], shaping)?;
-            // a coder would send the excitation that it found
-            let mut input = [0.0; SUBFRAME];
-            input.copy_from_slice(&speech[(s + 1) * SUBFRAME..(s + 2) * SUBFRAME]);
-            let out = g7231::run_combined(&mut self.combined, &input, &aq, &taps[s], shaping)?;
-            answers.singles(&lsp);
-            answers.singles(&aq);
-            answers.number(shaping.lag);
-            answers.singles(&[shaping.beta]);
-            for list in [response, ringing, out] {
-                answers.singles(&list);
-            }
-        }
-        Ok((index, pitch))
-    }
-}
-
 struct Decoder {
-    set: [f32; 10],
-    lines: [f32; 10],
+    set: Lines,
+    lines: Lines,
 }
 
 impl Decoder {
-    /// The same set and the same lines from the index alone.
-    fn decode(&mut self, index: u32, answers: &mut Hash) -> Result<(), Refusal> {
+    /// The same set, lines and filters from the index alone.
+    fn decode(&mut self, index: u32, answers: &mut Hash) -> Result<Filters, Refusal> {
         self.set = g7231::decode_lsp_freq(index, &self.set)?;
-        settle(&self.set, &mut self.lines, answers)
+        let last = self.lines;
+        self.lines = settle(&self.set, answers)?;
+        filters(&last, &self.lines, answers)
     }
 }
 
-/// The samples as numbers from -1 to 1, with 60 zeros before and after.
-fn read_call(name: &str) -> Result<Vec<f32>, String> {
-    let bytes = std::fs::read(name).map_err(|e| format!("{name}: {e}"))?;
-    if bytes.is_empty() || bytes.len() % (2 * FRAME) != 0 {
-        return Err(format!("{name}: it does not hold whole frames of 240 16-bit samples"));
+/// The bits of a frame and of the memory after it, in the order of the header.
+fn bits(frame: &Frame, coder: &Coder) -> Vec<u32> {
+    let mut all = vec![frame.index];
+    all.extend(frame.pitch.iter().chain(&frame.lag));
+    let mut singles = |list: &[f32]| all.extend(list.iter().map(|x| x.to_bits()));
+    singles(&frame.factor);
+    singles(frame.a.as_flattened());
+    for ten in [coder.set, coder.lines, coder.x_mem, coder.f_mem] {
+        singles(&ten);
     }
-    let mut speech = vec![0.0; SUBFRAME];
-    speech.extend(bytes.chunks_exact(2).map(|pair| i16::from_le_bytes([pair[0], pair[1]]) as f32 / 32768.0));
-    speech.extend([0.0; SUBFRAME]);
-    Ok(speech)
+    singles(&coder.weighted);
+    all
+}
+
+/// Whether two lists have the same bits; if not, why the call ends.
+fn same(one: &[f32], other: &[f32], frame: usize, what: &str) -> Result<(), String> {
+    let equal = one.len() == other.len() && one.iter().zip(other).all(|(x, y)| x.to_bits() == y.to_bits());
+    equal.then_some(()).ok_or_else(|| format!("frame {frame}: the ends have different {what}"))
+}
+
+/// The samples with 60 zeros before and after them, and zeros where the last frame is not whole.
+fn read_call(name: &str) -> Result<Vec<i16>, String> {
+    let bytes = std::fs::read(name).map_err(|e| format!("{name}: {e}"))?;
+    if bytes.is_empty() || bytes.len() % 2 != 0 {
+        let why = if bytes.is_empty() { "it has no samples" } else { "it ends with half a sample" };
+        return Err(format!("{name}: {why}"));
+    }
+    let mut samples = vec![0; AROUND];
+    samples.extend(bytes.chunks_exact(2).map(|pair| i16::from_le_bytes([pair[0], pair[1]])));
+    samples.resize((bytes.len() / 2).next_multiple_of(FRAME) + 2 * AROUND, 0);
+    Ok(samples)
 }
 
 fn run(name: &str) -> Result<(), String> {
     let refused = |why: Refusal| format!("a door refused with {}: {why}", why.0);
-    let speech = read_call(name)?;
-    let resting = g7231::resting_set();
-    let lines = g7231::lsp_freq_to_cosines(&resting).map_err(refused)?;
-    let mut coder = Coder {
-        set: resting,
-        found: lines,
-        lines,
-        weighting: WeightingMem::default(),
-        weighted: [0.0; WEIGHTED],
-        combined: CombinedMem::new(),
-    };
-    let mut decoder = Decoder { set: resting, lines };
-    let (mut coded, mut answers) = (Hash::new(), Hash::new());
-    for (frame, start) in (0..speech.len() - 2 * SUBFRAME).step_by(FRAME).enumerate() {
-        let around = &speech[start..start + FRAME + 2 * SUBFRAME];
-        let (index, pitch) = coder.code(around, &mut answers).map_err(refused)?;
-        decoder.decode(index, &mut answers).map_err(refused)?;
-        let bits = |list: [f32; 10]| list.map(f32::to_bits);
-        if bits(coder.set) != bits(decoder.set) || bits(coder.lines) != bits(decoder.lines) {
-            return Err(format!("frame {frame}: the ends have different lines"));
+    let samples = read_call(name)?;
+    let (mut caller, mut stepper) = (g7231::new_coder(), g7231::new_coder());
+    let mut combined = CombinedMem::new();
+    let set = g7231::resting_set();
+    let mut decoder = Decoder { set, lines: g7231::lsp_freq_to_cosines(&set).map_err(refused)? };
+    let [mut coded, mut called, mut stepped, mut answers] = [(); 4].map(|()| Hash::new());
+    for (k, start) in (0..samples.len() - 2 * AROUND).step_by(FRAME).enumerate() {
+        let around = &samples[start..start + SPAN];
+        let frame = g7231::code_frame(&mut caller, around, SPACING_HZ).map_err(refused)?;
+        coded.numbers(&[frame.index, frame.pitch[0], frame.pitch[1]]);
+        let one = bits(&frame, &caller);
+        called.numbers(&one);
+
+        let x = std::array::from_fn(|i| f32::from(around[i]));
+        let (again, taps) = step(&mut stepper, &x, &mut answers).map_err(refused)?;
+        let other = bits(&again, &stepper);
+        stepped.numbers(&other);
+        answers.numbers(&other);
+        if one != other {
+            return Err(format!("frame {k}: the frame call and the doors one by one part"));
         }
-        coded.number(index);
-        pitch.iter().for_each(|lag| coded.number(*lag));
-        println!("frame {frame:3}  index {index:8}  lags {:3} {:3}", pitch[0], pitch[1]);
+        combine(&mut combined, &x, &frame, &taps, &mut answers).map_err(refused)?;
+
+        let a = decoder.decode(frame.index, &mut answers).map_err(refused)?;
+        same(&decoder.set, &caller.set, k, "sets")?;
+        same(&decoder.lines, &caller.lines, k, "lines")?;
+        same(a.as_flattened(), frame.a.as_flattened(), k, "filters")?;
+        println!("frame {k:3}  index {:8}  lags {:3} {:3}", frame.index, frame.pitch[0], frame.pitch[1]);
     }
-    println!("indices and lags {:016x}\nall answers      {:016x}", coded.0, answers.0);
+    println!("indices and lags      {:016x}", coded.0);
+    println!("the frame call        {:016x}", called.0);
+    println!("the doors one by one  {:016x}", stepped.0);
+    println!("all answers           {:016x}", answers.0);
     Ok(())
 }
 
