@@ -1,7 +1,7 @@
 -- `code_frame`: the whole answer on every frame. The stages stand in the order in which they run; the first refusal among them refuses the
 -- frame with its number and leaves every memory as it was. A stage after a refused one is computed on that one's zeros and does not matter.
 -- `rows` is any list of code rows, and hz the spacing of the stability check.
--- Document 02, E2.1 to E2.18. Assumes nothing.
+-- Added by design, of the stages of §2.4 to §2.11; document 02, E2.1 to E2.18. Assumes nothing.
 use Prim.Native.Nat.{ℕ}
 use mathlib.Core.Bool.{not}
 use mathlib.Core.List.{List, [], _∷_, _++_}
@@ -14,7 +14,6 @@ use Rattle.float.specs.Single.{single}
 use Rattle.float.specs.Vector.{zeros}
 use Rattle.spec_lsp.specs.declared.quantise.Quantised.{Quantised}
 use Rattle.stability.specs.declared.Stabilised.{Stabilised}
-use Rattle.pitch.specs.declared.HnsParams.{HnsParams}
 use Rattle.frame.specs.declared.Coder.{Coder}
 use Rattle.frame.specs.declared.Frame.{Frame}
 use Rattle.frame.specs.declared.Filters.{Filters}

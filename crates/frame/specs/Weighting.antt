@@ -1,7 +1,6 @@
 -- The stage of the weighting: each subframe through the weighting filter of its own window, the filter's memories carried from one to the
 -- next. The weighted speech is what was kept of it before the frame, and the frame's four subframes.
 -- Document 02, E2.4 and E2.9; §2.8. Assumes nothing.
-use Prim.Native.Nat.{ℕ}
 use mathlib.Core.List.{List, [], _∷_, _++_}
 use lib.Ieee.{Float}
 use Rattle.float.specs.Refusal.{firstOf, answer}

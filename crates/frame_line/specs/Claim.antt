@@ -1,5 +1,5 @@
 -- What is claimed of whole frames, clause by clause: for every list of frames from a new coder and a decoder at rest.
--- Document 02, E2.16. Assumes nothing.
+-- Added by design, around §2.5 to §2.7; document 02, E2.16. Assumes nothing.
 use Prim.Native.Nat.{ℕ, _+_, _*_, _^_, _≤_, _<_}
 use mathlib.Core.Path.{_≡_}
 use mathlib.Core.Bool.{false}

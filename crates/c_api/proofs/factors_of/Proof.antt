@@ -2,7 +2,7 @@
 use borrow.Author.Needs.{needs}
 use mathlib.Core.Path.{refl}
 use Prim.Native.Nat.{_-_}
-use lib.Ieee.{Float, ofBits}
+use lib.Ieee.{Float}
 use Rattle.pitch.specs.declared.HnsParams.{HnsParams}
 use Rattle.c_api.proofs.Settings.{Taken, none, more, all}
 use Rattle.c_api.proofs.factors_of.Statement.{statement}

@@ -1,7 +1,7 @@
 -- `c_api::g7231_bare_code_frame` meets its contract: where the frame is done each buffer holds its part of the answer, else what it held.
 -- Assumes nothing.
 use borrow.Author.Needs.{needs}
-use mathlib.Core.Path.{_≡_, refl, _∙_}
+use mathlib.Core.Path.{_∙_}
 use mathlib.Core.List.{List}
 use Prim.Native.Nat.{ℕ}
 use lib.Ieee.{Float}

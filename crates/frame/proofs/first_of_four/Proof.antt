@@ -1,6 +1,6 @@
 -- `frame::first_of_four` meets its contract: after the last of four statuses stands nothing. Assumes nothing.
 use borrow.Author.Needs.{needs}
-use mathlib.Core.Path.{_≡_, refl, _∙_}
+use mathlib.Core.Path.{_≡_}
 use mathlib.Core.List.{[], _∷_}
 use Prim.Native.Nat.{ℕ, zero, suc}
 use Rattle.float.specs.Refusal.{firstOf, answer}

@@ -6,7 +6,7 @@ use mathlib.Core.List.{List, [], _++_}
 use lib.Ieee.{Float}
 use lib.ListN.{length}
 use Rattle.frame.specs.inner.Put.{Put}
-use Rattle.frame.proofs.Begins.{Begins, nothing, further, filled}
+use Rattle.frame.proofs.Begins.{nothing, further, filled}
 use Rattle.frame.proofs.in_a_row.Statement.{statement}
 use Rattle.frame.proofs.in_a_row.Tie as tie
 

@@ -2,13 +2,12 @@
 use borrow.Author.Needs.{needs}
 use native.Mathlib.Omega.{arith}
 use mathlib.Core.Path.{_≡_, _∙_}
-use mathlib.Core.List.{List, [], _++_}
-use Prim.Native.Nat.{_-_}
+use mathlib.Core.List.{List, []}
 use lib.Ieee.{Float}
 use lib.ListN.{length, take, drop, length-drop}
 use lib.Seq.{take-all}
 use Rattle.frame.specs.inner.Put.{Put}
-use Rattle.frame.proofs.Begins.{Begins, nothing, further, filled}
+use Rattle.frame.proofs.Begins.{nothing, further, filled}
 use Rattle.frame.proofs.last_145.Statement.{statement}
 use Rattle.frame.proofs.last_145.Tie as tie
 

@@ -1,10 +1,10 @@
 -- `frame::pitches_of` meets its contract: the lags of both halves. Assumes nothing.
 use borrow.Author.Needs.{needs}
-use mathlib.Core.Path.{_≡_, refl}
+use mathlib.Core.Path.{_≡_}
 use mathlib.Core.List.{List, [], _∷_}
-use Prim.Native.Nat.{ℕ, zero, suc}
+use Prim.Native.Nat.{ℕ}
 use lib.Ieee.{Float}
-use Rattle.float.specs.Refusal.{firstOf, answer}
+use Rattle.float.specs.Refusal.{answer}
 use Rattle.pitch.specs.Pitch.{openLoopPitch}
 use Rattle.pitch.specs.declared.OpenLoop.{OpenLoop}
 use Rattle.frame.specs.declared.Lags.{Lags}

@@ -1,11 +1,11 @@
 -- `frame::spectrum_of` meets its contract: three stages, each over the one before it. Assumes nothing.
 use borrow.Author.Needs.{needs}
-use mathlib.Core.Path.{_≡_, refl}
-use mathlib.Core.List.{List, [], _∷_}
+use mathlib.Core.Path.{_≡_}
+use mathlib.Core.List.{List}
 use Prim.Native.Nat.{ℕ}
 use lib.IntN.{ℤ}
 use lib.Ieee.{Float}
-use Rattle.float.specs.Refusal.{firstOf, answer}
+use Rattle.float.specs.Refusal.{answer}
 use Rattle.spec_lsp.specs.declared.quantise.Quantised.{Quantised}
 use Rattle.stability.specs.declared.Stabilised.{Stabilised}
 use Rattle.frame.specs.declared.Coder.{Coder}

@@ -1,6 +1,6 @@
 -- `frame::weigh_frame` meets its contract: each part is its subframe, and each subframe follows the one before it. Assumes nothing.
 use borrow.Author.Needs.{needs}
-use mathlib.Core.Path.{_≡_, refl, _∙_}
+use mathlib.Core.Path.{_≡_, _∙_}
 use mathlib.Core.List.{List}
 use lib.Ieee.{Float}
 use Rattle.weighting.specs.declared.Weighted.{Weighted}

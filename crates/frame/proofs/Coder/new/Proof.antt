@@ -1,6 +1,6 @@
 -- `frame::Coder::new` meets its contract: the resting set, its cosines, and zeros. Assumes nothing.
 use borrow.Author.Needs.{needs}
-use mathlib.Core.Path.{_≡_, refl}
+use mathlib.Core.Path.{_≡_}
 use mathlib.Core.List.{List}
 use lib.Ieee.{Float, ofBits}
 use Rattle.float.specs.Vector.{zeros}
