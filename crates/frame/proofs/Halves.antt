@@ -7,31 +7,26 @@ use lib.IntN.{ℤ}
 use lib.Ieee.{Float}
 use Rattle.float.specs.Refusal.{firstOf, answer}
 use Rattle.float.proofs.Refusal.{answer-refused, answer-done}
+use Rattle.frame_parts.specs.declared.Filters.{Filters}
+use Rattle.frame_parts.proofs.Statuses.{last-of, in-turn}
+use Rattle.spectrum.specs.declared.Spectrum.{Spectrum}
+use Rattle.spectrum.specs.Lines.{lines, stabilised}
+use Rattle.spectrum.specs.Filters.{filters}
+use Rattle.spectrum.specs.inner.Spectrum.{spectrum}
+use Rattle.voice.specs.declared.Voice.{Voice}
+use Rattle.voice.specs.Weighting.{weighting}
+use Rattle.voice.specs.Pitch.{pitches, shapings}
+use Rattle.voice.specs.inner.Voice.{voice}
 use Rattle.frame.specs.declared.Coder.{Coder}
-use Rattle.frame.specs.declared.Filters.{Filters}
 use Rattle.frame.specs.declared.Frame.{Frame}
-use Rattle.frame.specs.declared.Spectrum.{Spectrum}
-use Rattle.frame.specs.declared.Voice.{Voice}
 use Rattle.frame.specs.Windows.{windows}
-use Rattle.frame.specs.Lines.{lines, stabilised}
-use Rattle.frame.specs.Filters.{filters}
-use Rattle.frame.specs.Weighting.{weighting}
-use Rattle.frame.specs.Pitch.{pitches, shapings}
 use Rattle.frame.specs.Frame.{refusal, coded}
-use Rattle.frame.specs.inner.Halves.{spectrum, voice, finished}
+use Rattle.frame.specs.inner.Halves.{finished}
 
 together : (ss ts : List ℕ) → firstOf (ss ++ ts) ≡ answer (firstOf ss) (λ n. n) (firstOf ts)
 together [] ts = refl
 together (zero ∷ ss) ts = together ss ts
 together (suc s ∷ ss) ts = refl
-
-pub last-of : (s : ℕ) → s ≡ firstOf (s ∷ [])
-last-of zero = refl
-last-of (suc s) = refl
-
--- three statuses, of which the last two were taken together
-pub in-turn : (a b c p n : ℕ) → p ≡ answer b (λ k. k) c → n ≡ answer a (λ k. k) p → n ≡ firstOf (a ∷ b ∷ c ∷ [])
-in-turn a b c p n e f = f ∙ ap (answer a (λ k. k)) (e ∙ ap (answer b (λ k. k)) (last-of c))
 
 -- statuses that were taken together in two groups
 grouped : (a : ℕ) (ss ts : List ℕ) → firstOf (a ∷ ss ++ ts) ≡ firstOf (a ∷ firstOf ss ∷ firstOf ts ∷ [])
@@ -40,8 +35,8 @@ grouped a ss ts = ap (answer a (λ n. n)) (together ss ts ∙ ap (answer (firstO
 -- the frame of the windows, the spectrum and the voice
 halved : (rows : List ℤ) (coder : Coder) (x : List Float) (hz : Float) →
     let w = windows x in
-    let s = spectrum rows coder (w .a3) hz in
-    let v = voice coder w x in
+    let s = spectrum rows (coder .set) (coder .lines) (w .a3) hz in
+    let v = voice (coder .«x_mem») (coder .«f_mem») (coder .weighted) w x in
     coded rows coder x hz ≡ answer (firstOf (w .status ∷ s .status ∷ v .status ∷ [])) (refusal coder) (finished s v)
 unfolding coded spectrum voice
 halved rows coder x hz =
@@ -49,15 +44,15 @@ halved rows coder x hz =
     let l = lines rows (w .a3) (coder .set) in
     let s = stabilised (l .set) hz in
     let f = filters (coder .lines) (s .cosines) in
-    let v = weighting coder w x in
+    let v = weighting (coder .«x_mem») (coder .«f_mem») (coder .weighted) w x in
     let p = pitches (v .speech) in
     let h = shapings (v .speech) (p .lags) in
-    ap (λ (n : ℕ). answer n (refusal coder) (finished (spectrum rows coder (w .a3) hz) (voice coder w x)))
+    ap (λ (n : ℕ). answer n (refusal coder) (finished (spectrum rows (coder .set) (coder .lines) (w .a3) hz) (voice (coder .«x_mem») (coder .«f_mem») (coder .weighted) w x)))
     (grouped (w .status) (l .status ∷ s .status ∷ f .status ∷ []) (v .status ∷ p .status ∷ h .status ∷ []))
 
 -- what was answered: w, s and v, and their first status n
 module _ (rows : List ℤ) (coder : Coder) (x : List Float) (hz : Float) (w : Filters) (s : Spectrum) (v : Voice) (p n : ℕ)
-    (ew : w ≡ windows x) (es : s ≡ spectrum rows coder (w .a3) hz) (ev : v ≡ voice coder w x)
+    (ew : w ≡ windows x) (es : s ≡ spectrum rows (coder .set) (coder .lines) (w .a3) hz) (ev : v ≡ voice (coder .«x_mem») (coder .«f_mem») (coder .weighted) w x)
     (ep : p ≡ answer (s .status) (λ k. k) (v .status)) (en : n ≡ answer (w .status) (λ k. k) p) where
   frame-of : answer n (refusal coder) (finished s v) ≡ coded rows coder x hz
   frame-of = rw (in-turn (w .status) (s .status) (v .status) p n ep en, ev, es, ew) (sym (halved rows coder x hz))

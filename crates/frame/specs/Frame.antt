@@ -4,7 +4,7 @@
 -- Added by design, of the stages of §2.4 to §2.11; document 02, E2.1 to E2.18. Assumes nothing.
 use Prim.Native.Nat.{ℕ}
 use mathlib.Core.Bool.{not}
-use mathlib.Core.List.{List, [], _∷_, _++_}
+use mathlib.Core.List.{List, [], _∷_}
 use lib.Dec.{eqb}
 use lib.IntN.{ℤ}
 use lib.ListN.{length, replicate, drop}
@@ -14,16 +14,15 @@ use Rattle.float.specs.Single.{single}
 use Rattle.float.specs.Vector.{zeros}
 use Rattle.spec_lsp.specs.declared.quantise.Quantised.{Quantised}
 use Rattle.stability.specs.declared.Stabilised.{Stabilised}
+use Rattle.frame_parts.specs.Parts.{singles}
+use Rattle.spectrum.specs.Lines.{lines, stabilised}
+use Rattle.spectrum.specs.Filters.{filters, joined}
+use Rattle.voice.specs.declared.Speech.{Speech}
+use Rattle.voice.specs.Weighting.{weighting}
+use Rattle.voice.specs.Pitch.{pitches, shapings}
 use Rattle.frame.specs.declared.Coder.{Coder}
 use Rattle.frame.specs.declared.Frame.{Frame}
-use Rattle.frame.specs.declared.Filters.{Filters}
-use Rattle.frame.specs.declared.Speech.{Speech}
-use Rattle.frame.specs.Parts.{singles}
 use Rattle.frame.specs.Windows.{windows}
-use Rattle.frame.specs.Lines.{lines, stabilised}
-use Rattle.frame.specs.Filters.{filters}
-use Rattle.frame.specs.Weighting.{weighting}
-use Rattle.frame.specs.Pitch.{pitches, shapings}
 
 -- a refused frame: its number, zeros, and the memories as given
 abbrev pub refusal : Coder → ℕ → Frame
@@ -36,10 +35,6 @@ refusal coder n = record {
   coder = coder;
 }
 
--- the four filters one after the other
-abbrev pub joined : Filters → List Float
-joined f = f .a0 ++ f .a1 ++ f .a2 ++ f .a3
-
 -- the memories after a frame: the predictor keeps the quantiser's set, and of the weighted speech the last 145 samples are kept
 abbrev pub after : Quantised → Stabilised → Speech → Coder
 after l s v = record { set = l .set; lines = s .cosines; «x_mem» = v .«x_mem»; «f_mem» = v .«f_mem»; weighted = drop 240 (v .speech) }
@@ -50,7 +45,7 @@ coded rows coder x hz =
     let l = lines rows (w .a3) (coder .set) in
     let s = stabilised (l .set) hz in
     let f = filters (coder .lines) (s .cosines) in
-    let v = weighting coder w x in
+    let v = weighting (coder .«x_mem») (coder .«f_mem») (coder .weighted) w x in
     let p = pitches (v .speech) in
     let h = shapings (v .speech) (p .lags) in
     answer (firstOf (w .status ∷ l .status ∷ s .status ∷ f .status ∷ v .status ∷ p .status ∷ h .status ∷ [])) (refusal coder)

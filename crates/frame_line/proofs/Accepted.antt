@@ -13,13 +13,13 @@ use Rattle.float.specs.Refusal.{first, answer}
 use Rattle.float.proofs.Refusal.{not-refused}
 use Rattle.spec_lsp.specs.Quantise.{refusedIndex, quantiseLspFreq}
 use Rattle.spec_lsp.specs.declared.quantise.Quantised.{Quantised}
+use Rattle.frame_parts.specs.Parts.{singles}
+use Rattle.spectrum.specs.Lines.{given, lines}
+use Rattle.spectrum.specs.Filters.{filters, joined}
 use Rattle.frame.specs.declared.Coder.{Coder}
 use Rattle.frame.specs.declared.Frame.{Frame}
-use Rattle.frame.specs.Parts.{singles}
 use Rattle.frame.specs.Windows.{windows}
-use Rattle.frame.specs.Lines.{given, lines}
-use Rattle.frame.specs.Filters.{filters}
-use Rattle.frame.specs.Frame.{refusal, joined, coded, codeFrame}
+use Rattle.frame.specs.Frame.{refusal, coded, codeFrame}
 use Rattle.frame_line.proofs.Chain.{lineStage, stableStage, filterStage, chain, done, coded-is}
 
 pub record Accepted (rows : List ℤ) (coder : Coder) (x : List Float) (hz : Float) (frame : Frame) : Type 0 where

@@ -9,18 +9,18 @@ use lib.Ieee.{Float}
 use Rattle.float.specs.Refusal.{firstOf, answer}
 use Rattle.spec_lsp.specs.declared.quantise.Quantised.{Quantised}
 use Rattle.stability.specs.declared.Stabilised.{Stabilised}
+use Rattle.frame_parts.specs.declared.Filters.{Filters}
+use Rattle.spectrum.specs.Lines.{lines, stabilised}
+use Rattle.spectrum.specs.Filters.{filters, joined}
+use Rattle.voice.specs.declared.Lags.{Lags}
+use Rattle.voice.specs.declared.Shapings.{Shapings}
+use Rattle.voice.specs.declared.Speech.{Speech}
+use Rattle.voice.specs.Weighting.{weighting}
+use Rattle.voice.specs.Pitch.{pitches, shapings}
 use Rattle.frame.specs.declared.Coder.{Coder}
 use Rattle.frame.specs.declared.Frame.{Frame}
-use Rattle.frame.specs.declared.Filters.{Filters}
-use Rattle.frame.specs.declared.Lags.{Lags}
-use Rattle.frame.specs.declared.Shapings.{Shapings}
-use Rattle.frame.specs.declared.Speech.{Speech}
 use Rattle.frame.specs.Windows.{windows}
-use Rattle.frame.specs.Lines.{lines, stabilised}
-use Rattle.frame.specs.Filters.{filters}
-use Rattle.frame.specs.Weighting.{weighting}
-use Rattle.frame.specs.Pitch.{pitches, shapings}
-use Rattle.frame.specs.Frame.{refusal, joined, coded}
+use Rattle.frame.specs.Frame.{refusal, coded}
 
 module _ (rows : List ℤ) (coder : Coder) (x : List Float) where
   abbrev pub lineStage : Quantised
@@ -34,7 +34,7 @@ module _ (rows : List ℤ) (coder : Coder) (x : List Float) where
     filterStage = filters (coder .lines) (stableStage .cosines)
 
     abbrev speech : Speech
-    speech = weighting coder (windows x) x
+    speech = weighting (coder .«x_mem») (coder .«f_mem») (coder .weighted) (windows x) x
 
     abbrev lags : Lags
     lags = pitches (speech .speech)

@@ -36,8 +36,8 @@ use Rattle.stability.specs.Spacing.{spacing, outside}
 use Rattle.stability.specs.Stability.{angleOf, cosineOf as stableCosine, stable, done, refusal, spacingRefusals, enforced}
 use Rattle.stability.specs.declared.Stabilised.{Stabilised}
 use Rattle.stability.proofs.Bounded.{stable-bound}
-use Rattle.frame.specs.Lines.{stabilised}
-use Rattle.frame.specs.Filters.{filterOf, filters}
+use Rattle.spectrum.specs.Lines.{stabilised}
+use Rattle.spectrum.specs.Filters.{filterOf, filters}
 use Rattle.frame_line.proofs.Finite.{is-true, finite-bound, table-finite}
 
 -- ---- the cosine rule

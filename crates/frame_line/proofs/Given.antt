@@ -28,7 +28,7 @@ use Rattle.convert.specs.Convert.{freqOf, cosinesToFreq}
 use Rattle.lsp.specs.Chebyshev.{plusNext, minusNext, chebyshev}
 use Rattle.lsp.specs.Pairs.{inTurn, falling, paired, lpcToLsp}
 use Rattle.lsp.proofs.Inside.{cosines}
-use Rattle.frame.specs.Lines.{given}
+use Rattle.spectrum.specs.Lines.{given}
 use Rattle.frame_line.proofs.Finite.{is-true, finite-bound}
 use Rattle.frame_line.proofs.Cosines.{Usable, cosines-finite}
 

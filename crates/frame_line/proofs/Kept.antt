@@ -15,11 +15,10 @@ use Rattle.spec_lsp.specs.Decode.{decodeLspFreq}
 use Rattle.spec_lsp.specs.Quantise.{quantiseLspFreq}
 use Rattle.spec_lsp.specs.Resting.{resting}
 use Rattle.spec_lsp.proofs.Refusals.{decode-done}
+use Rattle.frame_parts.specs.Parts.{singles}
+use Rattle.spectrum.specs.Lines.{stabilised}
+use Rattle.spectrum.specs.Filters.{filters, joined}
 use Rattle.frame.specs.Coder.{newCoder}
-use Rattle.frame.specs.Lines.{stabilised}
-use Rattle.frame.specs.Filters.{filters}
-use Rattle.frame.specs.Frame.{joined}
-use Rattle.frame.specs.Parts.{singles}
 use Rattle.line.specs.declared.Ends.{Ends}
 use Rattle.line.specs.Line.{step}
 use Rattle.line.specs.Claim.{start}

@@ -9,9 +9,9 @@ use lib.IntN.{ℤ}
 use lib.ListN.{length}
 use lib.Ieee.{Float}
 use Rattle.float.specs.Refusal.{first, answer}
+use Rattle.frame_parts.specs.Parts.{singles}
 use Rattle.frame.specs.declared.Coder.{Coder}
 use Rattle.frame.specs.declared.Frame.{Frame}
-use Rattle.frame.specs.Parts.{singles}
 use Rattle.frame.specs.Frame.{refusal, coded, codeFrame}
 use Rattle.frame_line.proofs.Chain.{chain, done, coded-is}
 

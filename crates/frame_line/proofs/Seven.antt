@@ -7,7 +7,7 @@ use lib.IntN.{ℤ}
 use lib.Ieee.{Float}
 use Rattle.lsp.specs.Pairs.{lpcToLsp}
 use Rattle.spec_lsp.specs.Quantise.{quantiseLspFreq}
-use Rattle.frame.specs.Lines.{given, lines}
+use Rattle.spectrum.specs.Lines.{given, lines}
 
 pub seven-quantises-the-last : (rows : List ℤ) (a set : List Float) → lpcToLsp a .status ≡ 7 →
     lines rows a set ≡ quantiseLspFreq rows set set

@@ -23,7 +23,7 @@ use Rattle.stability.specs.Spacing.{spacing, half, least, outside}
 use Rattle.stability.specs.Passes.{close, apart, spread, pass, next, settled}
 use Rattle.stability.specs.Clamps.{margin, raised, lowered, clamped}
 use Rattle.stability.specs.Stability.{stable, enforced}
-use Rattle.frame.specs.Lines.{stabilised}
+use Rattle.spectrum.specs.Lines.{stabilised}
 
 -- the set of the index, after the resting set
 abbrev pub silent : List Float

@@ -22,14 +22,14 @@ use Rattle.spec_tables.specs.Bounds.{rowsPass, allInside}
 use Rattle.spec_tables.specs.Codebook.{neg}
 use Rattle.spec_lsp.specs.declared.quantise.Quantised.{Quantised}
 use Rattle.stability.specs.Spacing.{outside}
+use Rattle.frame_parts.specs.Parts.{singles}
+use Rattle.spectrum.specs.Lines.{given, lines, stabilised}
+use Rattle.spectrum.specs.Filters.{filters}
+use Rattle.voice.specs.Weighting.{weighting}
+use Rattle.voice.specs.Pitch.{pitches, shapings}
 use Rattle.frame.specs.declared.Coder.{Coder}
 use Rattle.frame.specs.declared.Frame.{Frame}
-use Rattle.frame.specs.Parts.{singles}
 use Rattle.frame.specs.Windows.{windows}
-use Rattle.frame.specs.Lines.{given, lines, stabilised}
-use Rattle.frame.specs.Filters.{filters}
-use Rattle.frame.specs.Weighting.{weighting}
-use Rattle.frame.specs.Pitch.{pitches, shapings}
 use Rattle.frame.specs.Frame.{refusal, codeFrame}
 use Rattle.line.specs.Line.{step}
 use Rattle.frame_line.specs.Frames.{FrameTurn, FrameEnds, begin, frameRun}
@@ -104,7 +104,7 @@ module _ (rows : List ℤ) (R : T (rowsPass rows)) (frames : List FrameTurn) whe
       T (allInside (neg 32768) (pos 32767) samples) → notFinite (hz ∷ []) ≡ false → outside hz ≡ false →
       let coder = frameRun rows begin frames .coder in
       let x = singles samples in
-      let v = weighting coder (windows x) x in
+      let v = weighting (coder .«x_mem») (coder .«f_mem») (coder .weighted) (windows x) x in
       let p = pitches (v .speech) in
       let h = shapings (v .speech) (p .lags) in
       codeFrame rows coder samples hz .status ≡ firstOf (v .status ∷ p .status ∷ h .status ∷ [])

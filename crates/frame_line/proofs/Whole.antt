@@ -14,9 +14,9 @@ use lib.Ieee.{Float}
 use Rattle.spec_lsp.specs.Decode.{decodeLspFreq}
 use Rattle.spec_lsp.specs.Quantise.{indexOf, quantiseLspFreq}
 use Rattle.spec_lsp.proofs.Refusals.{quantised-decoded}
+use Rattle.spectrum.specs.Lines.{given, lines}
 use Rattle.frame.specs.declared.Coder.{Coder}
 use Rattle.frame.specs.Coder.{newCoder}
-use Rattle.frame.specs.Lines.{given, lines}
 use Rattle.frame.specs.Frame.{codeFrame}
 use Rattle.frame_line.specs.Decoder.{Decoder, Decoded, newDecoder, decodeFrame}
 use Rattle.frame_line.specs.Frames.{

@@ -22,7 +22,7 @@ use Rattle.spec_tables.specs.Codebook.{neg}
 use Rattle.correlation.specs.Correlation.{sums}
 use Rattle.lpc.specs.Analysis.{setOf, lpcAnalysis}
 use Rattle.lpc.specs.declared.LpcAnalysis.{LpcAnalysis}
-use Rattle.frame.specs.Parts.{singles, part}
+use Rattle.frame_parts.specs.Parts.{singles, part}
 use Rattle.frame.specs.Windows.{windows}
 use Rattle.frame_line.proofs.Finite.{is-true}
 use Rattle.frame_line.proofs.Levinson.{coefficients-finite}

@@ -11,9 +11,8 @@ use Rattle.float.specs.Vector.{zeros}
 use Rattle.convert.specs.Convert.{freqToCosines}
 use Rattle.spec_lsp.specs.Decode.{decodeLspFreq}
 use Rattle.spec_lsp.specs.Resting.{resting}
-use Rattle.frame.specs.Lines.{stabilised}
-use Rattle.frame.specs.Filters.{filters}
-use Rattle.frame.specs.Frame.{joined}
+use Rattle.spectrum.specs.Lines.{stabilised}
+use Rattle.spectrum.specs.Filters.{filters, joined}
 
 -- the line frequencies, and the stabilised cosines of the last frame
 pub record Decoder : Type 0 where

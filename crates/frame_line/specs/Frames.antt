@@ -7,12 +7,12 @@ use mathlib.Core.List.{List, [], _∷_}
 use lib.Dec.{eqb}
 use lib.IntN.{ℤ}
 use lib.Ieee.{Float}
+use Rattle.frame_parts.specs.Parts.{singles}
+use Rattle.spectrum.specs.Lines.{given}
 use Rattle.frame.specs.declared.Coder.{Coder}
 use Rattle.frame.specs.declared.Frame.{Frame}
-use Rattle.frame.specs.Parts.{singles}
 use Rattle.frame.specs.Coder.{newCoder}
 use Rattle.frame.specs.Windows.{windows}
-use Rattle.frame.specs.Lines.{given}
 use Rattle.frame.specs.Frame.{codeFrame}
 use Rattle.line.specs.declared.Turn.{Turn}
 use Rattle.frame_line.specs.Decoder.{Decoder, newDecoder, decodeFrame}

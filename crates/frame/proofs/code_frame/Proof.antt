@@ -6,9 +6,9 @@ use mathlib.Core.List.{List}
 use lib.IntN.{ℤ}
 use lib.ListN.{length}
 use lib.Ieee.{Float}
+use Rattle.frame_parts.specs.Parts.{singles}
 use Rattle.frame.specs.declared.Coder.{Coder}
 use Rattle.frame.specs.declared.Frame.{Frame}
-use Rattle.frame.specs.Parts.{singles}
 use Rattle.frame.specs.Frame.{refusal, coded, codeFrame}
 use Rattle.frame.proofs.code_frame.Statement.{statement}
 use Rattle.frame.proofs.code_frame.Tie as tie

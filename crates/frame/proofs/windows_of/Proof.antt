@@ -7,8 +7,8 @@ use lib.Ieee.{Float}
 use Rattle.float.specs.Refusal.{firstOf}
 use Rattle.lpc.specs.Analysis.{lpcAnalysis}
 use Rattle.lpc.specs.declared.LpcAnalysis.{LpcAnalysis}
-use Rattle.frame.specs.declared.Filters.{Filters}
-use Rattle.frame.specs.Parts.{window}
+use Rattle.frame_parts.specs.declared.Filters.{Filters}
+use Rattle.frame_parts.specs.Parts.{window}
 use Rattle.frame.specs.Windows.{windows}
 use Rattle.frame.proofs.windows_of.Statement.{statement}
 use Rattle.frame.proofs.windows_of.Tie as tie
