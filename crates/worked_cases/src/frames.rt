@@ -158,7 +158,7 @@ fn without_lines() -> [f32; 11] {
 
 pub fn at_rest() -> bool {
     let rest = spec_lsp::resting::resting_set();
-    let answer = frame::lines_of(without_lines(), rest);
+    let answer = spectrum::lines_of(without_lines(), rest);
     let set = answer.set;
     let same = lists::hash_of(&set) == lists::hash_of(&rest);
     (answer.status == 0) & (answer.index == 0) & same
@@ -178,7 +178,7 @@ pub fn after_a_set() -> bool {
         26290.0,
         29516.0,
     ];
-    let answer = frame::lines_of(without_lines(), set);
+    let answer = spectrum::lines_of(without_lines(), set);
     (answer.status == 0) & (answer.index == 12812705)
 }
 
