@@ -32,11 +32,18 @@ together (suc s ∷ ss) ts = refl
 grouped : (a : ℕ) (ss ts : List ℕ) → firstOf (a ∷ ss ++ ts) ≡ firstOf (a ∷ firstOf ss ∷ firstOf ts ∷ [])
 grouped a ss ts = ap (answer a (λ n. n)) (together ss ts ∙ ap (answer (firstOf ss) (λ n. n)) (last-of (firstOf ts)))
 
+-- both halves after the memories of a coder
+abbrev spectrumOf : List ℤ → Coder → Filters → Float → Spectrum
+spectrumOf rows coder w hz = spectrum rows (coder .set) (coder .lines) (w .a3) hz
+
+abbrev voiceOf : Coder → Filters → List Float → Voice
+voiceOf coder w x = voice (coder .«x_mem») (coder .«f_mem») (coder .weighted) w x
+
 -- the frame of the windows, the spectrum and the voice
 halved : (rows : List ℤ) (coder : Coder) (x : List Float) (hz : Float) →
     let w = windows x in
-    let s = spectrum rows (coder .set) (coder .lines) (w .a3) hz in
-    let v = voice (coder .«x_mem») (coder .«f_mem») (coder .weighted) w x in
+    let s = spectrumOf rows coder w hz in
+    let v = voiceOf coder w x in
     coded rows coder x hz ≡ answer (firstOf (w .status ∷ s .status ∷ v .status ∷ [])) (refusal coder) (finished s v)
 unfolding coded spectrum voice
 halved rows coder x hz =
@@ -47,12 +54,12 @@ halved rows coder x hz =
     let v = weighting (coder .«x_mem») (coder .«f_mem») (coder .weighted) w x in
     let p = pitches (v .speech) in
     let h = shapings (v .speech) (p .lags) in
-    ap (λ (n : ℕ). answer n (refusal coder) (finished (spectrum rows (coder .set) (coder .lines) (w .a3) hz) (voice (coder .«x_mem») (coder .«f_mem») (coder .weighted) w x)))
+    ap (λ (n : ℕ). answer n (refusal coder) (finished (spectrumOf rows coder w hz) (voiceOf coder w x)))
     (grouped (w .status) (l .status ∷ s .status ∷ f .status ∷ []) (v .status ∷ p .status ∷ h .status ∷ []))
 
 -- what was answered: w, s and v, and their first status n
 module _ (rows : List ℤ) (coder : Coder) (x : List Float) (hz : Float) (w : Filters) (s : Spectrum) (v : Voice) (p n : ℕ)
-    (ew : w ≡ windows x) (es : s ≡ spectrum rows (coder .set) (coder .lines) (w .a3) hz) (ev : v ≡ voice (coder .«x_mem») (coder .«f_mem») (coder .weighted) w x)
+    (ew : w ≡ windows x) (es : s ≡ spectrumOf rows coder w hz) (ev : v ≡ voiceOf coder w x)
     (ep : p ≡ answer (s .status) (λ k. k) (v .status)) (en : n ≡ answer (w .status) (λ k. k) p) where
   frame-of : answer n (refusal coder) (finished s v) ≡ coded rows coder x hz
   frame-of = rw (in-turn (w .status) (s .status) (v .status) p n ep en, ev, es, ew) (sym (halved rows coder x hz))
