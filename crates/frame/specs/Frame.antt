@@ -19,7 +19,7 @@ use Rattle.spectrum.specs.Lines.{lines, stabilised}
 use Rattle.spectrum.specs.Filters.{filters, joined}
 use Rattle.voice.specs.declared.Speech.{Speech}
 use Rattle.voice.specs.Weighting.{weighting}
-use Rattle.voice.specs.Pitch.{pitches, shapings}
+use Rattle.frame_pitch.specs.Pitch.{pitches, shapings}
 use Rattle.frame.specs.declared.Coder.{Coder}
 use Rattle.frame.specs.declared.Frame.{Frame}
 use Rattle.frame.specs.Windows.{windows}

@@ -26,7 +26,7 @@ use Rattle.frame_parts.specs.Parts.{singles}
 use Rattle.spectrum.specs.Lines.{given, lines, stabilised}
 use Rattle.spectrum.specs.Filters.{filters}
 use Rattle.voice.specs.Weighting.{weighting}
-use Rattle.voice.specs.Pitch.{pitches, shapings}
+use Rattle.frame_pitch.specs.Pitch.{pitches, shapings}
 use Rattle.frame.specs.declared.Coder.{Coder}
 use Rattle.frame.specs.declared.Frame.{Frame}
 use Rattle.frame.specs.Windows.{windows}

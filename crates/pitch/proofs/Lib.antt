@@ -1,4 +1,5 @@
 -- Laws that other crates cite.
 mod Powers
 pub mod Edge
-mod Settings
+pub mod Settings
+pub mod Half

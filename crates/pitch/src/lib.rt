@@ -159,12 +159,11 @@ fn greater_of(a: u32, b: u32) -> u32
     if a < b { b } else { a }
 }
 
-// The settings for the 60 samples after limit + 3 samples of history. Lags l − 3 .. l + 3 lie nearer than 18 to each other, so the open-loop search finds the first greatest.
-fn shaping_in(x: &[f64; 265], squares: &[f64; 265], limit: u32, l: u32) -> HnsParams
-    requires { ⌜ limit ≤ 142 ⌝ ∗ ⌜ 18 ≤ l ⌝ ∗ ⌜ l ≤ limit ⌝ ∗ ⌜ now squares ≡ table 265 (λ i. getD (now x) i nan ⊠ getD (now x) i nan) ⌝ }
-    ensures { λ r. ⌜ r ≡ settings limit (now (x .entry)) (limit + 3) l ⌝ }
+// The settings for the 60 samples from o on. Lags l − 3 .. l + 3 lie nearer than 18 to each other, so the open-loop search finds the first greatest.
+pub fn shaping_in(x: &[f64; 265], squares: &[f64; 265], o: usize, limit: u32, l: u32) -> HnsParams
+    requires { ⌜ (limit + 3 ≤ o) × (o + 60 ≤ 265) ⌝ ∗ ⌜ limit ≤ 142 ⌝ ∗ ⌜ 18 ≤ l ⌝ ∗ ⌜ l ≤ limit ⌝ ∗ ⌜ now squares ≡ table 265 (λ i. getD (now x) i nan ⊠ getD (now x) i nan) ⌝ }
+    ensures { λ r. ⌜ r ≡ settings limit (now (x .entry)) o l ⌝ }
 {
-    let o = limit as usize + 3;
     let e = lags::energy(squares, o, 60);
     let first = l - 4;
     let sums = lags::eight_lags(x, squares, o, 60, first as usize);
@@ -219,7 +218,7 @@ fn shaping_at(wbuf: &[f32], place: usize, l_ol: u32) -> HnsParams
     lags::widen(&mut x, &wbuf[place - 145..place + 60]);
     let mut squares = [0.0f64; 265];
     lags::square(&mut squares, &x);
-    shaping_in(&x, &squares, 142, l_ol)
+    shaping_in(&x, &squares, 145, 142, l_ol)
 }
 
 // The subframe of 60 samples at place, with 145 samples before it, around the open-loop lag.

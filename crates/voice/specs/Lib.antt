@@ -1,4 +1,3 @@
--- The voice of a frame: one stage a file, the shaping with the pitch.
+-- The voice of a frame: the stage of the weighting; pitch and shaping are in `frame_pitch`.
 pub mod Weighting
-pub mod Pitch
 pub mod inner

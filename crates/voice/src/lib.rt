@@ -3,7 +3,6 @@ ghost use mathlib.Core.Path.{_≡_};
 ghost use mathlib.Core.List.{_++_};
 ghost use lib.ListN.{length, drop};
 ghost use Rattle.voice.specs.Weighting.{weighed, next, weighting};
-ghost use Rattle.voice.specs.Pitch.{pitches, shapings};
 ghost use Rattle.voice.specs.inner.Voice.{gathered, voice};
 use frame_parts::Filters;
 use pitch::HnsParams;
@@ -15,18 +14,6 @@ pub struct Speech {
     pub speech: [f32; 385],
     pub x_mem: [f32; 10],
     pub f_mem: [f32; 10],
-}
-
-// The lags of both halves.
-pub struct Lags {
-    pub status: u32,
-    pub lags: [u32; 2],
-}
-
-// The noise shaping of four subframes.
-pub struct Shapings {
-    pub status: u32,
-    pub settings: [HnsParams; 4],
 }
 
 // Half of a frame's answer: what its voice gives.
@@ -129,38 +116,6 @@ fn weigh_frame(
     gather(past, s0, s1, s2, s3)
 }
 
-// ---- pitch and shaping
-
-fn pitches_of(speech: &[f32]) -> Lags
-    ensures { λ r. ⌜ r ≡ pitches (now (speech .entry)) ⌝ }
-{
-    let p0 = pitch::open_loop_pitch(speech, 0);
-    let p1 = pitch::open_loop_pitch(speech, 1);
-    let status = frame_parts::first_of(p0.status, p1.status);
-    Lags {
-        status,
-        lags: [p0.lag, p1.lag],
-    }
-}
-
-fn shapings_of(speech: &[f32], lags: [u32; 2]) -> Shapings
-    ensures { λ r. ⌜ r ≡ shapings (now (speech .entry)) lags ⌝ }
-{
-    let h0 = pitch::harmonic_noise_shaping(speech, 145, lags[0]);
-    let h1 = pitch::harmonic_noise_shaping(speech, 205, lags[0]);
-    let h2 = pitch::harmonic_noise_shaping(speech, 265, lags[1]);
-    let h3 = pitch::harmonic_noise_shaping(speech, 325, lags[1]);
-    let status = frame_parts::first_of_four(h0.status, h1.status, h2.status, h3.status);
-    let p0 = h0.params;
-    let p1 = h1.params;
-    let p2 = h2.params;
-    let p3 = h3.params;
-    Shapings {
-        status,
-        settings: [p0, p1, p2, p3],
-    }
-}
-
 // ---- the three stages
 
 // The last 145 samples of the weighted speech.
@@ -187,12 +142,11 @@ pub fn voice_of(
     let v = weigh_frame(x_mem, f_mem, past, w, x);
     let x_mem = v.x_mem;
     let f_mem = v.f_mem;
-    let p = pitches_of(&v.speech);
-    let pitch = p.lags;
-    let h = shapings_of(&v.speech, pitch);
-    let shaping = h.settings;
+    let t = frame_pitch::tone_of(&v.speech);
+    let pitch = t.lags;
+    let shaping = t.settings;
     let weighted = last_145(&v.speech);
-    let status = frame_parts::first_of(v.status, frame_parts::first_of(p.status, h.status));
+    let status = frame_parts::first_of(v.status, t.status);
     Voice {
         status,
         pitch,

@@ -12,8 +12,6 @@ unfolding nothing double round ofBits
 shaping-in-spec =
     tie.close
     (tie.spec
-    -- add-o
-    (λ c. search needs)
     -- energy-requires
     (λ c κs. search needs)
     -- sub-first
@@ -36,7 +34,7 @@ shaping-in-spec =
     (λ c.
     let searched = c .before .before .before in
     let summed = searched .before .before in
-    none-won _ _ _ _ _ _ _ (summed .before .before .pre) (summed .eight-lags .ensures) (searched .before .greater-of .ensures) (searched .compete .ensures)
+    none-won _ _ _ _ _ _ _ _ (summed .before .before .pre) (summed .eight-lags .ensures) (searched .before .greater-of .ensures) (searched .compete .ensures)
     (search) _ (c .off .ensures))
     -- add-i
     (λ c. search needs)
@@ -44,7 +42,7 @@ shaping-in-spec =
     (λ c.
     let searched = c .before .before in
     let summed = searched .before .before in
-    placed _ _ _ _ _ _ _ (summed .before .before .pre) (summed .eight-lags .ensures) (searched .before .greater-of .ensures) (searched .compete .ensures)
+    placed _ _ _ _ _ _ _ _ (summed .before .before .pre) (summed .eight-lags .ensures) (searched .before .greater-of .ensures) (searched .compete .ensures)
     (search) .0)
     -- cast-i
     (λ c. search needs)
@@ -54,7 +52,7 @@ shaping-in-spec =
     (λ c.
     let searched = c .before .before in
     let summed = searched .before .before in
-    placed _ _ _ _ _ _ _ (summed .before .before .pre) (summed .eight-lags .ensures) (searched .before .greater-of .ensures) (searched .compete .ensures)
+    placed _ _ _ _ _ _ _ _ (summed .before .before .pre) (summed .eight-lags .ensures) (searched .before .greater-of .ensures) (searched .compete .ensures)
     (search) .1)
     -- mul-settle-2
     (λ c. search needs)
@@ -62,7 +60,7 @@ shaping-in-spec =
     (λ c.
     let searched = c .before .before .before in
     let summed = searched .before .before in
-    placed _ _ _ _ _ _ _ (summed .before .before .pre) (summed .eight-lags .ensures) (searched .before .greater-of .ensures) (searched .compete .ensures)
+    placed _ _ _ _ _ _ _ _ (summed .before .before .pre) (summed .eight-lags .ensures) (searched .before .greater-of .ensures) (searched .compete .ensures)
     (search) .1)
     -- settle-requires
     (λ c κs. search needs)
@@ -70,5 +68,5 @@ shaping-in-spec =
     (λ c.
     let searched = c .before .before .before .before .before in
     let summed = searched .before .before in
-    one-won _ _ _ _ _ _ _ (summed .before .before .pre) (summed .eight-lags .ensures) (searched .before .greater-of .ensures) (searched .compete .ensures)
+    one-won _ _ _ _ _ _ _ _ (summed .before .before .pre) (summed .eight-lags .ensures) (searched .before .greater-of .ensures) (searched .compete .ensures)
     (search) _ _ (summed .before .energy .ensures) (c .settle .ensures)))

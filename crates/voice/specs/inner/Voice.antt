@@ -6,10 +6,10 @@ use lib.Ieee.{Float}
 use Rattle.float.specs.Refusal.{firstOf}
 use Rattle.weighting.specs.declared.Weighted.{Weighted}
 use Rattle.frame_parts.specs.declared.Filters.{Filters}
+use Rattle.frame_pitch.specs.inner.Tone.{tone}
 use Rattle.voice.specs.declared.Speech.{Speech}
 use Rattle.voice.specs.declared.Voice.{Voice}
 use Rattle.voice.specs.Weighting.{weighting}
-use Rattle.voice.specs.Pitch.{pitches, shapings}
 
 -- what is gathered of the past and four subframes
 abbrev pub gathered : List Float → Weighted → Weighted → Weighted → Weighted → Speech
@@ -24,12 +24,11 @@ gathered past s0 s1 s2 s3 = record {
 unfoldable pub voice : List Float → List Float → List Float → Filters → List Float → Voice
 voice xs fs past w x =
     let v = weighting xs fs past w x in
-    let p = pitches (v .speech) in
-    let h = shapings (v .speech) (p .lags) in
+    let t = tone (v .speech) in
     record {
-      status = firstOf (v .status ∷ p .status ∷ h .status ∷ []);
-      pitch = p .lags;
-      shaping = h .settings;
+      status = firstOf (v .status ∷ t .status ∷ []);
+      pitch = t .lags;
+      shaping = t .settings;
       «x_mem» = v .«x_mem»;
       «f_mem» = v .«f_mem»;
       weighted = drop 240 (v .speech);

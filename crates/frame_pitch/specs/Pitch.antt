@@ -8,9 +8,18 @@ use lib.ListN.{getD}
 use Rattle.float.specs.Refusal.{firstOf}
 use Rattle.pitch.specs.Pitch.{openLoopPitch}
 use Rattle.pitch.specs.Shaping.{harmonicNoiseShaping}
+use Rattle.pitch.specs.declared.HnsParams.{HnsParams}
 use Rattle.pitch.specs.declared.Shaping.{Shaping}
-use Rattle.voice.specs.declared.Lags.{Lags}
-use Rattle.voice.specs.declared.Shapings.{Shapings}
+
+-- the lags of both halves
+pub record Lags : Type 0 where
+  pub status : ℕ
+  pub lags : List ℕ
+
+-- the noise shaping of four subframes
+pub record Shapings : Type 0 where
+  pub status : ℕ
+  pub settings : List HnsParams
 
 unfoldable pub pitches : List Float → Lags
 pitches speech =

@@ -1,0 +1,50 @@
+-- A half of the frame with the history before it, as the code copies it: what is read is finite, and the copy has the buffer's winner. Assumes nothing.
+use native.Mathlib.Omega.{arith}
+use mathlib.Core.Path.{_≡_, ap, _∙_}
+use mathlib.Core.List.{List, _++_}
+use Prim.Native.Nat.{ℕ, suc, _+_, _-_, _*_, _≤_}
+use lib.Dec.{T}
+use lib.Ieee.{Float}
+use lib.Ieee.Scale.{finite}
+use lib.ListN.{length, take, drop, length-drop, length-append}
+use lib.Seq.{length-take-le}
+use Rattle.float.specs.Refusal.{all}
+use Rattle.float.proofs.Parts.{passes, all-part}
+use Rattle.lags.specs.declared.Best.{Best}
+use Rattle.lags.specs.Search.{winner, preferred}
+use Rattle.lags.proofs.Window.{Copy, begins, copied, winner-window}
+use Rattle.pitch.specs.Pitch.{start}
+use Rattle.pitch.specs.inner.Readable.{Half}
+
+module _ (limit : ℕ) (w : List Float) (half : ℕ) (shown : Half limit w half) where
+  -- the half and its history, as the code cuts them
+  abbrev pub part : List Float
+  part = take (start limit half + 120 - (start limit half - (limit + 3))) (drop (start limit half - (limit + 3)) w)
+
+  -- what is read is part of what was looked at
+  pub part-finite : T (all finite part)
+  part-finite =
+      let o = start limit half in
+      all-part finite w (o - (limit + 3)) (o + 120 - (o - (limit + 3))) (o + 120) (omega arith) (passes _ (shown .fine))
+
+  module _ (x rest : List Float) (e : x ≡ part ++ rest) where
+    pub half-copied : Copy x w (start limit half - (limit + 3)) (limit + 3 + 120)
+    half-copied =
+        let o = start limit half in
+        let m = limit + 3 in
+        copied x w (o - m) (m + 120) (o + 120) (omega arith) (shown .long) (begins x part rest e)
+
+    pub found : (b : Best) → b ≡ winner preferred x (limit + 3) 120 18 (suc limit) → b .lag ≡ winner preferred w (start limit half) 120 18 (suc limit) .lag
+    found b s =
+        let o = start limit half in
+        let m = limit + 3 in
+        let p : m ≤ o = omega arith in
+        rw (s, winner-window x w m o 120 p half-copied preferred 18 (suc limit) (omega arith))
+
+    pub half-long : limit + 3 + 120 ≤ length x
+    half-long =
+        let o = start limit half in
+        let m = limit + 3 in
+        let n : length part ≡ o + 120 - (o - m) = length-take-le (o + 120 - (o - m)) (drop (o - m) w) (simp length-drop (omega (arith, shown .long))) in
+        let l : length x ≡ length part + length rest = ap length e ∙ length-append part rest in
+        omega arith
