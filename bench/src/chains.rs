@@ -1,5 +1,5 @@
 //! A frame through the stages one after the other, as one function: the published Rust's stages, without a refusal; and
-//! the library's doors in their bare forms.
+//! the library's doors in their bare forms, as a host calls them.
 
 use crate::given::Given;
 use crate::pairs::Run;
@@ -9,8 +9,9 @@ use oracle::doors::made::*;
 use oracle::reference::Rust;
 use std::hint::black_box;
 
-/// A chain of stages on the frames that the door is called on. The memories are filled before each, as the door's are.
-pub fn run(stages: impl Stages + 'static, given: &Given) -> Run {
+/// The published stages on the frames that the door is called on. The memories are filled before each, as the door's are.
+pub fn published(rust: &Rust, given: &Given) -> Run {
+    let stages = Published(*rust);
     let frames = frames(given);
     for (coder, samples, spacing_hz) in &frames {
         if let Err(status) = code_frame(&stages, &mut coder.clone(), samples, *spacing_hz) {
@@ -36,7 +37,7 @@ fn frames(given: &Given) -> Vec<(Coder, Vec<i16>, f32)> {
     samples.into_iter().enumerate().map(frame).collect()
 }
 
-pub struct Published(pub Rust);
+struct Published(Rust);
 
 impl Stages for Published {
     fn lpc_analysis(&self, window: &[f32]) -> Result<Eleven, u32> {
@@ -96,94 +97,91 @@ impl Stages for Published {
     }
 }
 
-pub struct Doors;
+const EMPTY: g7231_frame = g7231_frame { index: 0, pitch: [0; 2], lag: [0; 4], factor: [0.0; 4], a: [[0.0; 11]; 4] };
 
-fn done(status: u32) -> Result<(), u32> {
-    match status {
-        G7231_DONE => Ok(()),
-        status => Err(status),
+/// The doors of the stages one by one: each writes where its answer is wanted, and no more is copied than is kept, so that
+/// what is timed is the doors and nothing around them.
+pub fn doors(given: &Given) -> Run {
+    let frames = frames(given);
+    let call = |(coder, samples, spacing_hz): &(Coder, Vec<i16>, f32), frame: &mut g7231_frame| {
+        let mut coder = coder.clone();
+        // Each buffer has the length that its door asks for, and none overlaps another.
+        let status = unsafe { by_doors(&mut coder, samples, *spacing_hz, frame) };
+        black_box(coder);
+        status
+    };
+    let mut frame = EMPTY;
+    for one in &frames {
+        let status = call(one, &mut frame);
+        if status != G7231_DONE {
+            fail(&format!("a chain of doors refuses what is drawn for {}: status {status}", given.door.name));
+        }
+        // as text every float has its own digits, and a zero its sign
+        if format!("{frame:?}") != format!("{:?}", whole(one)) {
+            fail(&format!("the doors one by one answer otherwise than {}", given.door.name));
+        }
     }
+    Box::new(move |i| {
+        call(&frames[i], &mut frame);
+        black_box(&frame);
+    })
 }
 
-/// Each buffer has the length that its door asks for, and none overlaps another.
-impl Stages for Doors {
-    fn lpc_analysis(&self, window: &[f32]) -> Result<Eleven, u32> {
-        let (mut a, mut r, mut k2) = ([0.0; 11], [0.0; 11], 0.0);
-        done(unsafe { g7231_bare_lpc_analysis(window.as_ptr(), window.len(), &mut a, &mut r, &mut k2) })?;
-        Ok(a)
-    }
+/// The frame by its own door.
+fn whole((coder, samples, spacing_hz): &(Coder, Vec<i16>, f32)) -> g7231_frame {
+    let Coder { set, lines, x_mem, f_mem, weighted } = coder.clone();
+    let mut coder = g7231_coder { set, lines, x_mem, f_mem, weighted };
+    let mut frame = EMPTY;
+    unsafe { g7231_code_frame(&mut coder, samples.as_ptr(), samples.len(), *spacing_hz, &mut frame) };
+    frame
+}
 
-    fn lpc_to_lsp(&self, a: &Eleven) -> Result<Ten, u32> {
-        let mut lsp = [0.0; 10];
-        done(unsafe { g7231_bare_lpc_to_lsp(a, &mut lsp) })?;
-        Ok(lsp)
+unsafe fn by_doors(coder: &mut Coder, samples: &[i16], spacing_hz: f32, frame: &mut g7231_frame) -> u32 {
+    macro_rules! go {
+        ($door:ident, $($argument:expr),*) => {
+            match $door($($argument),*) {
+                G7231_DONE => {}
+                status => return status,
+            }
+        };
     }
-
-    fn lsp_cosines_to_freq(&self, cosines: &Ten) -> Result<Ten, u32> {
-        let mut freq = [0.0; 10];
-        done(unsafe { g7231_bare_lsp_cosines_to_freq(cosines, &mut freq) })?;
-        Ok(freq)
+    let (mut x, mut w, mut speech) = ([0.0f32; 360], [[0.0; 11]; 4], [0.0f32; 385]);
+    for (single, sample) in x.iter_mut().zip(samples) {
+        *single = f32::from(*sample);
     }
-
-    fn lsp_freq_to_cosines(&self, freq: &Ten) -> Result<Ten, u32> {
-        let mut cosines = [0.0; 10];
-        done(unsafe { g7231_bare_lsp_freq_to_cosines(freq, &mut cosines) })?;
-        Ok(cosines)
+    let (mut r, mut k2) = ([0.0; 11], 0.0);
+    for s in 0..4 {
+        go!(g7231_bare_lpc_analysis, x[60 * s..].as_ptr(), 180, &mut w[s], &mut r, &mut k2);
     }
-
-    fn quantise_lsp_freq(&self, p: &Ten, prev: &Ten) -> Result<(u32, Ten), u32> {
-        let (mut index, mut set) = (0, [0.0; 10]);
-        done(unsafe { g7231_bare_quantise_lsp_freq(p, prev, &mut index, &mut set) })?;
-        Ok((index, set))
+    let (mut cosines, mut freq, mut set, mut lines) = ([0.0; 10], [0.0; 10], [0.0; 10], [0.0; 10]);
+    match g7231_bare_lpc_to_lsp(&w[3], &mut cosines) {
+        G7231_DONE => go!(g7231_bare_lsp_cosines_to_freq, &cosines, &mut freq),
+        G7231_NO_LINE_SET => freq = coder.set,
+        status => return status,
     }
-
-    fn enforce_lsp_stability(&self, cosines: &Ten, spacing_hz: f32) -> Result<Ten, u32> {
-        let (mut out, mut converged) = ([0.0; 10], 0);
-        done(unsafe { g7231_bare_enforce_lsp_stability(cosines, spacing_hz, &mut out, &mut converged) })?;
-        Ok(out)
+    go!(g7231_bare_quantise_lsp_freq, &freq, &coder.set, &mut frame.index, &mut set);
+    go!(g7231_bare_lsp_freq_to_cosines, &set, &mut cosines);
+    let mut converged = 0;
+    go!(g7231_bare_enforce_lsp_stability, &cosines, spacing_hz, &mut lines, &mut converged);
+    for s in 0..4 {
+        go!(g7231_bare_interpolate_lsp, s, &coder.lines, &lines, &mut cosines);
+        go!(g7231_bare_lsp_to_lpc, &cosines, &mut frame.a[s]);
     }
-
-    fn interpolate_lsp(&self, choice: usize, prev: &Ten, cur: &Ten) -> Result<Ten, u32> {
-        let mut out = [0.0; 10];
-        done(unsafe { g7231_bare_interpolate_lsp(choice, prev, cur, &mut out) })?;
-        Ok(out)
+    speech[..145].copy_from_slice(&coder.weighted);
+    let (mut wz, mut wp) = ([0.0; 10], [0.0; 10]);
+    for s in 0..4 {
+        go!(g7231_bare_weighting_taps, &w[s], &mut wz, &mut wp);
+        let (from, to) = (x[60 + 60 * s..].as_ptr(), speech[145 + 60 * s..].as_mut_ptr().cast());
+        go!(g7231_bare_weight_subframe, from, 60, &wz, &wp, &mut coder.x_mem, &mut coder.f_mem, to);
     }
-
-    fn lsp_to_lpc(&self, lsp: &Ten) -> Result<Eleven, u32> {
-        let mut a = [0.0; 11];
-        done(unsafe { g7231_bare_lsp_to_lpc(lsp, &mut a) })?;
-        Ok(a)
+    for half in 0..2 {
+        go!(g7231_bare_open_loop_pitch, speech.as_ptr(), 385, half, &mut frame.pitch[half]);
     }
-
-    fn weighting_taps(&self, a: &Eleven) -> Result<(Ten, Ten), u32> {
-        let (mut wz, mut wp) = ([0.0; 10], [0.0; 10]);
-        done(unsafe { g7231_bare_weighting_taps(a, &mut wz, &mut wp) })?;
-        Ok((wz, wp))
+    for s in 0..4 {
+        let (lag, factor) = (&mut frame.lag[s], &mut frame.factor[s]);
+        go!(g7231_bare_harmonic_noise_shaping, speech.as_ptr(), 385, 145 + 60 * s, frame.pitch[s / 2], lag, factor);
     }
-
-    fn weight_subframe(
-        &self,
-        x: &[f32],
-        wz: &Ten,
-        wp: &Ten,
-        x_mem: &mut Ten,
-        f_mem: &mut Ten,
-    ) -> Result<Subframe, u32> {
-        let mut out = [0.0; 60];
-        done(unsafe { g7231_bare_weight_subframe(x.as_ptr(), x.len(), wz, wp, x_mem, f_mem, &mut out) })?;
-        Ok(out)
-    }
-
-    fn open_loop_pitch(&self, wbuf: &[f32], half: usize) -> Result<u32, u32> {
-        let mut lag = 0;
-        done(unsafe { g7231_bare_open_loop_pitch(wbuf.as_ptr(), wbuf.len(), half, &mut lag) })?;
-        Ok(lag)
-    }
-
-    fn harmonic_noise_shaping(&self, wbuf: &[f32], place: usize, l_ol: u32) -> Result<(u32, f32), u32> {
-        let (mut lag, mut beta) = (0, 0.0);
-        let (start, length) = (wbuf.as_ptr(), wbuf.len());
-        done(unsafe { g7231_bare_harmonic_noise_shaping(start, length, place, l_ol, &mut lag, &mut beta) })?;
-        Ok((lag, beta))
-    }
+    (coder.set, coder.lines) = (set, lines);
+    coder.weighted.copy_from_slice(&speech[240..]);
+    G7231_DONE
 }

@@ -29,7 +29,7 @@ pub fn pairs(rust: &Rust, seed: u64, only: Option<&str>) -> Vec<Pair> {
         let pair = |name, ours| Pair { name, rust: published::run(rust, &given), ours };
         let own = pair(door.name, given::run(&given));
         if door.name == FRAME {
-            first.extend([own, pair(CHAIN, chains::run(chains::Doors, &given))]);
+            first.extend([own, pair(CHAIN, chains::doors(&given))]);
         } else {
             rest.push(own);
         }

@@ -30,7 +30,7 @@ macro_rules! functions {
 /// The Rust's function of a door's name, if it has one.
 pub fn run(rust: &Rust, given: &Given) -> Option<Run> {
     if given.door.name == FRAME {
-        return Some(chains::run(chains::Published(*rust), given));
+        return Some(chains::published(rust, given));
     }
     functions! { rust, given;
         lpc_analysis(window: lists) => lpc_analysis(window);
