@@ -33,7 +33,11 @@ $1 == "parameter" && $6 != "Length" {
 $1 == "struct" { whole = !$3 }
 $1 == "field" && whole { fields[$2] = fields[$2] " " member($3, $4, $5, $6) }
 
-$1 == "exported" { exported[$2] = 1; order[++exports] = $2 }
+$1 == "exported" {
+    if ($2 in exported) differs($2, "is exported twice")
+    exported[$2] = 1
+    order[++exports] = $2
+}
 $1 == "takes" {
     at = ++takes[$2]
     its_names[$2, at] = $3

@@ -5,7 +5,7 @@
 #   takes      NAME PARAMETER WAY ELEMENT MANY COUNT    WAY: Read, Lent (&mut) or Value; a slice is one parameter here
 #   shape      STRUCT FIELD ELEMENT COUNT ROW
 #
-# Variable: exports, how the names of the files begin whose functions count.
+# Variable: exports, how the names of the files begin whose functions count, each with a tab after it.
 
 BEGIN {
     OFS = "\t"
@@ -17,6 +17,7 @@ BEGIN {
     element["usize"] = "Size"
     element["f32"] = "F32"
     element["f64"] = "F64"
+    places = split(exports, place, "\t") - 1
 }
 
 function fail(line, why) {
@@ -52,7 +53,11 @@ function array_of(text,  list, n, i, size) {
 }
 
 # a const is its file's own
-FNR == 1 { split("", number) }
+FNR == 1 {
+    split("", number)
+    counts = 0
+    for (i = 1; i <= places; i++) if (index(FILENAME, place[i]) == 1) counts = 1
+}
 /^(pub )?const [A-Z0-9_]+: usize = [0-9]+;/ {
     sub(/^pub /, "")
     number[substr($2, 1, length($2) - 1)] = $5 + 0
@@ -71,7 +76,7 @@ structure != "" && /^ *pub [a-z0-9_]+: / {
     print "shape", structure, substr(text, 1, at - 1), kind, many, row
 }
 
-index(FILENAME, exports) == 1 && /^pub extern "C" fn / { head = ""; began = FNR; reading = 1 }
+counts && /^pub extern "C" fn / { head = ""; began = FNR; reading = 1 }
 reading {
     head = head " " $0
     if (head !~ /\) *-> *[a-z0-9]+/ && head !~ /\) *([{]|$)/) next

@@ -13,8 +13,8 @@
  *
  * Threads and memory. Every function is reentrant: nothing is allocated, and what
  * is kept between calls is the caller's. So any threads may call at once, as long
- * as no one writes a buffer that another call has. A call takes less than 20 KB of
- * stack.
+ * as no one writes a buffer that another call has. A call takes less than 16 KB of
+ * stack, one of g7231_code_frame less than 28 KB.
  *
  * Buffers have the lengths written here and may not be null; a struct is a buffer
  * too. Buffers of one call may not overlap, but for this: buffers of floats that

@@ -12,12 +12,14 @@ use std::process::Command;
 mod tests;
 
 pub const PAGE: &str = "docs/TRUST.md";
+/// The crates that export doors.
+const EXPORTING: [&str; 2] = ["crates/c_api/", "crates/c_api_frame/"];
 const LENT: &str = "crates/c_api/specs/Lent.antt#lent";
 /// What a door may make of a part that C has in another form.
 const FORMS: [&str; 3] = [
     "crates/c_api/specs/Lent.antt#flag",
-    "crates/c_api/specs/Frame.antt#lags",
-    "crates/c_api/specs/Frame.antt#factors",
+    "crates/c_api_frame/specs/Frame.antt#lags",
+    "crates/c_api_frame/specs/Frame.antt#factors",
 ];
 
 /// The text of every crates/*/src/*.rt, by its path from the top.
@@ -166,7 +168,8 @@ struct Operation<'a> {
 /// A public function, by its name, and the names that its clauses may use.
 fn public<'a>(name: &str, sources: &'a [Source], doors: bool) -> Result<(&'a Function, Scope<'a>), String> {
     let mut found = Vec::new();
-    for source in sources.iter().filter(|source| source.path.starts_with("crates/c_api/") == doors) {
+    let exports = |path: &str| EXPORTING.iter().any(|one| path.starts_with(one));
+    for source in sources.iter().filter(|source| exports(source.path) == doors) {
         found.extend(source.functions.iter().filter(|one| one.public && one.name == name).map(|one| (source, one)));
     }
     let [(source, function)] = found[..] else {
@@ -337,7 +340,8 @@ impl Fitting<'_> {
                 let whole = self.operation.function.parameters.iter().any(|parameter| parameter.name == *name);
                 let built = match &inner[..] {
                     [Term::Word(by), rest @ ..] => {
-                        by.starts_with("crates/c_api/specs/") && rest.iter().all(|one| word(one).is_some_and(door_has))
+                        let own = |one: &&str| by.strip_prefix(*one).is_some_and(|file| file.starts_with("specs/"));
+                        EXPORTING.iter().any(|one| own(one)) && rest.iter().all(|one| word(one).is_some_and(door_has))
                     }
                     _ => false,
                 };

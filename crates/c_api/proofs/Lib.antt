@@ -1,2 +1,2 @@
-mod Lent
-mod Settings
+-- Laws that other crates cite.
+pub mod Lent

@@ -1,4 +1,3 @@
 -- What lent buffers hold.
-pub mod Frame
 pub mod Lent
 pub mod Memory

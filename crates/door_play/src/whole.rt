@@ -88,7 +88,7 @@ fn code_is(given: Coder, x: &[i16], want: Frame) -> bool {
     let mut lag = [77u32; 4];
     let mut factor = [buffers::MARK; 4];
     let mut a = [buffers::MARK; 44];
-    let status = c_api::g7231_bare_code_frame(
+    let status = c_api_frame::g7231_bare_code_frame(
         &mut set,
         &mut lines,
         &mut x_mem,
@@ -138,7 +138,7 @@ pub fn start() -> bool {
     let mut x_mem = buffers::marked();
     let mut f_mem = buffers::marked();
     let mut weighted = [buffers::MARK; 145];
-    let status = c_api::g7231_bare_new_coder(
+    let status = c_api_frame::g7231_bare_new_coder(
         &mut set,
         &mut lines,
         &mut x_mem,

@@ -50,7 +50,7 @@ ghost use Rattle.half.specs.Half.{halved, pair};
 ghost use Rattle.half.specs.Rest.{resting, newMem};
 ghost use Rattle.c_api.specs.Lent.{lent, flag};
 ghost use Rattle.c_api.specs.Memory.{memory};
-ghost use Rattle.c_api.specs.Frame.{lags, factors};
+ghost use Rattle.c_api_frame.specs.Frame.{lags, factors};
 
 // r is a buffer here, and s the status
 #[no_mangle]
@@ -115,8 +115,12 @@ const TABLE: &str = r#"
 "#;
 
 fn faults(page: &str, table: &str, operations: &str, doors: &str) -> Vec<String> {
-    let texts = [("crates/half/src/lib.rt", operations), ("crates/c_api/src/lib.rt", doors)];
-    check(page, table, &texts.map(|(path, text)| (path.to_string(), text.to_string())).into()).faults
+    faults_in(page, table, &[("crates/half/src/lib.rt", operations), ("crates/c_api/src/lib.rt", doors)])
+}
+
+fn faults_in(page: &str, table: &str, texts: &[(&str, &str)]) -> Vec<String> {
+    let texts = texts.iter().map(|(path, text)| (path.to_string(), text.to_string()));
+    check(page, table, &texts.collect()).faults
 }
 
 /// Alters one place of one of the texts, and looks for words in what is then said.
@@ -129,6 +133,17 @@ fn found(text: &str, old: &str, new: &str, words: &str) {
 #[test]
 fn the_sample_holds() {
     assert_eq!(faults(SAMPLE, TABLE, OPERATIONS, DOORS), [""; 0]);
+}
+
+#[test]
+fn doors_stand_in_two_crates() {
+    let (half, one, other) = ("crates/half/src/lib.rt", "crates/c_api/src/lib.rt", "crates/c_api_frame/src/lib.rt");
+    let said = |texts: &[(&str, &str)]| faults_in(SAMPLE, TABLE, texts);
+    assert_eq!(said(&[(half, OPERATIONS), (other, DOORS)]), [""; 0]);
+    let twice = said(&[(half, OPERATIONS), (one, DOORS), (other, DOORS)]);
+    assert!(twice.iter().any(|fault| fault.contains("there are 2 public functions")), "{twice:?}");
+    let elsewhere = said(&[(half, OPERATIONS), ("crates/c_api_more/src/lib.rt", DOORS)]);
+    assert!(elsewhere.iter().any(|fault| fault.contains("there are 0 public functions")), "{elsewhere:?}");
 }
 
 #[test]

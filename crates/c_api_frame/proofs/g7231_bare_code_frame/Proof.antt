@@ -1,4 +1,4 @@
--- `c_api::g7231_bare_code_frame` meets its contract: where the frame is done each buffer holds its part of the answer, else what it held.
+-- `c_api_frame::g7231_bare_code_frame` meets its contract: where the frame is done each buffer holds its part of the answer, else what it held.
 -- Assumes nothing.
 use borrow.Author.Needs.{needs}
 use mathlib.Core.Path.{_∙_}
@@ -6,10 +6,10 @@ use mathlib.Core.List.{List}
 use Prim.Native.Nat.{ℕ}
 use lib.Ieee.{Float}
 use Rattle.frame.specs.declared.Frame.{Frame}
-use Rattle.c_api.specs.Frame.{lags, factors}
+use Rattle.c_api_frame.specs.Frame.{lags, factors}
 use Rattle.c_api.proofs.Lent.{told, stored, kept}
-use Rattle.c_api.proofs.g7231_bare_code_frame.Statement.{statement}
-use Rattle.c_api.proofs.g7231_bare_code_frame.Tie as tie
+use Rattle.c_api_frame.proofs.g7231_bare_code_frame.Statement.{statement}
+use Rattle.c_api_frame.proofs.g7231_bare_code_frame.Tie as tie
 
 abbrev status : Frame → ℕ
 status f = f .status

@@ -1,14 +1,15 @@
--- `c_api::lags_of` meets its contract: after i turns the lags of the first i settings stand. Assumes nothing.
+-- `c_api_frame::factors_of` meets its contract: after i turns the factors of the first i settings stand. Assumes nothing.
 use borrow.Author.Needs.{needs}
 use mathlib.Core.Path.{refl}
-use Prim.Native.Nat.{ℕ, _-_}
+use Prim.Native.Nat.{_-_}
+use lib.Ieee.{Float}
 use Rattle.pitch.specs.declared.HnsParams.{HnsParams}
-use Rattle.c_api.proofs.Settings.{Taken, none, more, all}
-use Rattle.c_api.proofs.lags_of.Statement.{statement}
-use Rattle.c_api.proofs.lags_of.Tie as tie
+use Rattle.c_api_frame.proofs.Settings.{Taken, none, more, all}
+use Rattle.c_api_frame.proofs.factors_of.Statement.{statement}
+use Rattle.c_api_frame.proofs.factors_of.Tie as tie
 
-abbrev value : HnsParams → ℕ
-value h = h .lag
+abbrev value : HnsParams → Float
+value h = h .beta
 
 abbrev Inv-loop : tie.InvT-loop
 Inv-loop settings out₀ i₀ out i = Taken value settings i out
@@ -16,8 +17,8 @@ Inv-loop settings out₀ i₀ out i = Taken value settings i out
 abbrev μ-loop : tie.MeasureT-loop
 μ-loop settings out₀ i₀ out i = 4 - i
 
-pub lags-of-spec : {M : Type 1} → statement M
-lags-of-spec =
+pub factors-of-spec : {M : Type 1} → statement M
+factors-of-spec =
     tie.close
     (tie.spec
     Inv-loop

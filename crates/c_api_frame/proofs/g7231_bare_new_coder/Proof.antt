@@ -1,10 +1,10 @@
--- `c_api::g7231_bare_new_coder` meets its contract: every buffer holds its part of a new coder. Assumes nothing.
+-- `c_api_frame::g7231_bare_new_coder` meets its contract: every buffer holds its part of a new coder. Assumes nothing.
 use borrow.Author.Needs.{needs}
 use mathlib.Core.Path.{_≡_, refl, ap}
 use Rattle.frame.specs.declared.Coder.{Coder}
 use Rattle.frame.specs.Coder.{newCoder}
-use Rattle.c_api.proofs.g7231_bare_new_coder.Statement.{statement}
-use Rattle.c_api.proofs.g7231_bare_new_coder.Tie as tie
+use Rattle.c_api_frame.proofs.g7231_bare_new_coder.Statement.{statement}
+use Rattle.c_api_frame.proofs.g7231_bare_new_coder.Tie as tie
 
 -- a part of what was made is that part of a new coder
 part : {B : Type 0} (value : Coder → B) (coder : Coder) → coder ≡ newCoder → value coder ≡ value newCoder

@@ -1,0 +1,2 @@
+-- A coder and a frame as a caller lends them.
+pub mod Frame
