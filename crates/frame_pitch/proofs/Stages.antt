@@ -2,28 +2,24 @@
 -- it. Assumes nothing.
 use native.Mathlib.Omega.{arith}
 use borrow.Author.Tests.{le-ltb}
-use mathlib.Core.Path.{_≡_, refl, sym, ap, _∙_}
+use mathlib.Core.Path.{_≡_, refl, ap, _∙_}
 use mathlib.Core.Bool.{Bool, true, false, not, cond}
 use mathlib.Core.List.{List, [], _∷_}
-use mathlib.Core.Logic.{_⊎_, inl, inr}
-use Prim.Native.Nat.{ℕ, zero, suc, _+_, _-_, _*_, _≤_}
-use lib.Dec.{T}
+use mathlib.Core.Logic.{inl, inr}
+use Prim.Native.Nat.{ℕ, zero, suc, _+_, _-_, _≤_}
 use lib.Ieee.Bits.{is-true}
 use lib.Ieee.{Float}
 use lib.Ieee.Scale.{finite}
 use lib.ListN.{length, take, drop}
 use lib.Seq.{take-all}
 use Rattle.float.specs.Refusal.{all, firstOf, answer}
-use Rattle.float.specs.Finite.{notFinite}
 use Rattle.float.proofs.Parts.{passes, all-part}
 use Rattle.lags.specs.Lags.{cross, power}
 use Rattle.lags.specs.Search.{winner, preferred}
 use Rattle.lags.specs.declared.Best.{Best}
 use Rattle.lags.proofs.Winner.{Outcome, nothing-lag, winner-outcome, outcome-below}
 use Rattle.pitch.specs.Pitch.{start, refusedPitch, openLoopPitch}
-use Rattle.pitch.specs.Shaping.{settings, read, harmonicNoiseShaping}
-use Rattle.pitch.specs.declared.OpenLoop.{OpenLoop}
-use Rattle.pitch.specs.declared.Shaping.{Shaping}
+use Rattle.pitch.specs.Shaping.{settings, harmonicNoiseShaping}
 use Rattle.pitch.specs.inner.Readable.{Half}
 use Rattle.frame_pitch.specs.declared.HalfTone.{HalfTone}
 use Rattle.frame_pitch.specs.declared.Tone.{Tone}
@@ -115,11 +111,11 @@ module _ (w : List Float) (long : length w ≡ 385) where
   unfolding openLoopPitch refusedPitch
   pitch-status half h b e =
       let long-enough : start 142 half + 120 ≤ length w = omega (arith, long) in
-      rw (le-ltb _ _ h, le-ltb _ _ long-enough, e) (status-of b)
+      rw (le-ltb _ _ h, le-ltb _ _ long-enough, e) (five-or-none b)
     where
-      status-of : (b : Bool) → answer (cond (not b) 5 0) refusedPitch (record { status = 0; lag = winner preferred w (start 142 half) 120 18 143 .lag }) .status ≡ cond b 0 5
-      status-of true = refl
-      status-of false = refl
+      five-or-none : (b : Bool) → answer (cond (not b) 5 0) refusedPitch (record { status = 0; lag = winner preferred w (start 142 half) 120 18 143 .lag }) .status ≡ cond b 0 5
+      five-or-none true = refl
+      five-or-none false = refl
 
   pitches-refused : all finite w ≡ false → pitches w .status ≡ 5
   unfolding pitches
