@@ -3,22 +3,22 @@
 -- Document 01, B59 and B61. Assumes nothing.
 use mathlib.Core.Path.{_≡_, refl, sym, ap, _∙_}
 use mathlib.Core.List.{List, [], _∷_, _++_}
-use Prim.Native.Nat.{ℕ, zero, suc, _+_, _-_, _≤_, _<_}
+use Prim.Native.Nat.{ℕ, zero, suc, _+_, _-_, _≤_}
 use native.Mathlib.Numerals.{add-one}
 use native.Mathlib.Omega.{arith}
-use lib.ListN.{length, getD, take, drop, length-append, length-drop, List·getD-append, take-append-drop}
+use lib.ListN.{length, take, drop, length-append, List·getD-append, take-append-drop}
 use lib.Seq.{getD-at, take-append-le, drop-append-le, take-all}
 use lib.Ieee.{Float, nan}
-use Rattle.float.specs.Loop.{times, over}
+use Rattle.float.specs.Loop.{times}
 use Rattle.float.specs.Single.{_⊖_, _⊗_}
 use Rattle.float.specs.Table.{table}
 use Rattle.float.specs.Vector.{at}
 use Rattle.float.proofs.Table.{same-table}
 use Rattle.float.proofs.Loop.{over-more}
 use Rattle.combined.specs.declared.CombinedMem.{CombinedMem}
-use Rattle.combined.specs.Memory.{reach, last}
+use Rattle.combined.specs.Memory.{reach}
 use Rattle.combined.specs.inner.Shaped.{shaped}
-use Rattle.combined.specs.Cascade.{Settings, Cascade, back, sample, start, cascaded}
+use Rattle.combined.specs.Cascade.{Settings, back, sample, start, cascaded}
 use Rattle.combined.specs.Run.{after}
 
 -- one more output: those before it do not change, since each looks back
@@ -50,14 +50,18 @@ module _ (q : Settings) (input : List Float) (mem : CombinedMem) (full : length 
   pub harmonic-history : (n : ℕ) → take reach (cascaded q input mem n .harmonic) ≡ mem .«p_hist»
   unfolding times sample
   harmonic-history zero = take-all reach (mem .«p_hist») (omega arith)
-  harmonic-history (suc n) = rw (← add-one n, cascaded-more n) (take-append-le reach (cascaded q input mem n .harmonic) _ (omega (arith, harmonic-length n)) ∙ harmonic-history n)
+  harmonic-history (suc n) =
+      rw (← add-one n, cascaded-more n)
+      (take-append-le reach (cascaded q input mem n .harmonic) _ (omega (arith, harmonic-length n)) ∙ harmonic-history n)
 
   -- all outputs from all harmonic inputs
   pub out-shaped : 1 ≤ q .lag → (n : ℕ)
       → cascaded q input mem n .out ≡ table n (shaped (q .lag) (q .beta) (cascaded q input mem n .harmonic))
   unfolding times sample table
   out-shaped h zero = refl
-  out-shaped h (suc n) = rw (← add-one n, cascaded-more n) (grown (q .lag) (q .beta) (cascaded q input mem n .harmonic) (cascaded q input mem n .out) _ n h (harmonic-length n) (out-shaped h n))
+  out-shaped h (suc n) =
+      rw (← add-one n, cascaded-more n)
+      (grown (q .lag) (q .beta) (cascaded q input mem n .harmonic) (cascaded q input mem n .out) _ n h (harmonic-length n) (out-shaped h n))
 
   -- the history after a subframe: the old one from place 60 on, and the sixty new harmonic inputs
   pub history-after : after (cascaded q input mem 60) .«p_hist» ≡ drop 60 (mem .«p_hist») ++ drop reach (cascaded q input mem 60 .harmonic)

@@ -1,5 +1,4 @@
--- Laws of the cascade, of its delays and of its history.
-pub mod Harmonic
+-- Laws of the step, of the arrays that it alters and of the history.
 pub mod History
-pub mod Stages
-pub mod Cascaded
+pub mod Steps
+pub mod Stands

@@ -1,16 +1,16 @@
 // The combined filter (§2.12): synthesis, formant weighting and harmonic noise shaping of one subframe.
 ghost use mathlib.Core.Path.{_≡_};
 ghost use mathlib.Core.Bool.{not};
-ghost use mathlib.Core.List.{_∷_, [], _++_};
-ghost use Prim.Native.Nat.{_<_, _≤_};
-ghost use lib.ListN.{take, drop};
+ghost use mathlib.Core.List.{_∷_, []};
+ghost use Prim.Native.Nat.{_+_, _<_, _≤_};
+ghost use lib.ListN.{take, drop, set};
 ghost use Rattle.float.specs.Finite.{notFinite};
 ghost use Rattle.float.specs.Refusal.{any, first};
 ghost use Rattle.float.specs.Single.{_⊖_, _⊗_};
-ghost use Rattle.float.specs.Table.{table};
 ghost use Rattle.weighting.specs.inner.Delay.{behind};
 ghost use Rattle.combined.specs.Memory.{reach, atRest, floats};
 ghost use Rattle.combined.specs.Cascade.{settings, synthesised, cascaded};
+ghost use Rattle.combined.specs.inner.Step.{arrays, synthetic, formant, stepped};
 ghost use Rattle.combined.specs.Run.{done, refusal, combinedRefusals, runCombined};
 ghost use Rattle.combined.specs.inner.Shaped.{shaped};
 
@@ -81,29 +81,6 @@ fn start_history(p_hist: [f32; REACH]) -> [f32; REACH + 60]
     p
 }
 
-// All harmonic inputs: the history, and the samples of a delay.
-fn harmonic_inputs(p_hist: [f32; REACH], delay: [f32; 70]) -> [f32; REACH + 60]
-    ensures { λ r. ⌜ r ≡ «p_hist» ++ drop 10 delay ⌝ }
-{
-    let mut p = start_history(p_hist);
-    for i in 0..60 {
-        p[i + REACH] = delay[i + 10];
-    }
-    p
-}
-
-// Sixty samples of harmonic noise shaping.
-fn shape(p: [f32; REACH + 60], lag: usize, beta: f32) -> [f32; 60]
-    requires { ⌜ lag ≤ reach ⌝ }
-    ensures { λ r. ⌜ r ≡ table 60 (shaped lag beta p) ⌝ }
-{
-    let mut out = [0.0f32; 60];
-    for i in 0..60 {
-        out[i] = take_product(p[i + REACH], beta, p[i + REACH - lag]);
-    }
-    out
-}
-
 // The history after a subframe.
 fn last_inputs(p: [f32; REACH + 60]) -> [f32; REACH]
     ensures { λ r. ⌜ r ≡ drop 60 p ⌝ }
@@ -115,8 +92,71 @@ fn last_inputs(p: [f32; REACH + 60]) -> [f32; REACH]
     p_hist
 }
 
-// One subframe. Each stage has a delay in which its samples replace those of the input, and nothing is moved until the subframe ends. Synthesis
-// is one sample ahead of the weighting, so that the two sums, each a chain of its own, run side by side.
+// Sample n begins: it is synthesised, and joins the delay of the synthesis and the one before the weighting.
+fn begin_sample(
+    n: usize,
+    input: &[f32; 60],
+    aq: &[f32; 11],
+    syn: &mut [f32; 70],
+    xs: &mut [f32; 70],
+)
+    requires { ⌜ n < 60 ⌝ }
+    ensures synthesis { λ _. ⌜ now (syn .exit) ≡ set (now (syn .entry)) (n + 10) (synthetic (now (aq .entry)) (now (input .entry)) n (now (syn .entry))) ⌝ }
+    ensures weighting { λ _. ⌜ now (xs .exit) ≡ set (now (xs .entry)) (n + 10) (synthetic (now (aq .entry)) (now (input .entry)) n (now (syn .entry))) ⌝ }
+{
+    let s = synthesise_sample(input[n], n, aq, syn);
+    syn[n + 10] = s;
+    xs[n + 10] = s;
+}
+
+// Sample n ends: it is weighted and joins its delay and the harmonic inputs, and is shaped.
+fn end_sample(
+    n: usize,
+    wz: &[f32; 10],
+    wp: &[f32; 10],
+    lag: usize,
+    beta: f32,
+    xs: &[f32; 70],
+    fs: &mut [f32; 70],
+    p: &mut [f32; REACH + 60],
+    out: &mut [f32; 60],
+)
+    requires { ⌜ (n < 60) × (lag ≤ reach) ⌝ }
+    ensures weighted { λ _. ⌜ now (fs .exit) ≡ set (now (fs .entry)) (n + 10) (formant (now (wz .entry)) (now (wp .entry)) n (now (xs .entry)) (now (fs .entry))) ⌝ }
+    ensures harmonic { λ _. ⌜ now (p .exit) ≡ set (now (p .entry)) (n + reach) (formant (now (wz .entry)) (now (wp .entry)) n (now (xs .entry)) (now (fs .entry))) ⌝ }
+    ensures shaped { λ _. ⌜ now (out .exit) ≡ set (now (out .entry)) n (shaped lag beta (now (p .exit)) n) ⌝ }
+{
+    let s = xs[n + 10];
+    let f = weighting::weight_sample(s, n, wz, wp, xs, fs);
+    fs[n + 10] = f;
+    p[n + REACH] = f;
+    out[n] = take_product(p[n + REACH], beta, p[n + REACH - lag]);
+}
+
+// One step: sample n ends and the next begins. It alters one number in each of five arrays, at the position that n is.
+fn step(
+    n: usize,
+    input: &[f32; 60],
+    aq: &[f32; 11],
+    wz: &[f32; 10],
+    wp: &[f32; 10],
+    lag: usize,
+    beta: f32,
+    syn: &mut [f32; 70],
+    xs: &mut [f32; 70],
+    fs: &mut [f32; 70],
+    p: &mut [f32; REACH + 60],
+    out: &mut [f32; 60],
+)
+    requires { ⌜ (n < 59) × (lag ≤ reach) ⌝ }
+    ensures { λ _. ⌜ arrays (now (syn .exit)) (now (xs .exit)) (now (fs .exit)) (now (p .exit)) (now (out .exit)) ≡ stepped (settings (now (aq .entry)) (now (wz .entry)) (now (wp .entry)) lag beta) (now (input .entry)) n (arrays (now (syn .entry)) (now (xs .entry)) (now (fs .entry)) (now (p .entry)) (now (out .entry))) ⌝ }
+{
+    end_sample(n, wz, wp, lag, beta, xs, fs, p, out);
+    begin_sample(n + 1, input, aq, syn, xs);
+}
+
+// One subframe. Memory and history are copied into the arrays before the first sample and out of them after the last; between, nothing is
+// moved. A step ends one sample and begins the next, so that the sums of both, each a chain of its own, run side by side.
 fn run(
     mem: CombinedMem,
     input: [f32; 60],
@@ -133,27 +173,30 @@ fn run(
     let wz_mem = mem.wz;
     let wp_mem = mem.wp;
     let p_hist = mem.p_hist;
-    let mut syn = weighting::delayed(syn_mem, &input);
-    let mut xs = weighting::delayed(wz_mem, &input);
-    let mut fs = weighting::delayed(wp_mem, &input);
-    let x = syn[10];
-    let s = synthesise_sample(x, 0, &aq, &syn);
-    syn[10] = s;
-    xs[10] = s;
+    let mut syn = weighting::start_delay(syn_mem);
+    let mut xs = weighting::start_delay(wz_mem);
+    let mut fs = weighting::start_delay(wp_mem);
+    let mut p = start_history(p_hist);
+    let mut out = [0.0f32; 60];
+    let back = lag as usize;
+    begin_sample(0, &input, &aq, &mut syn, &mut xs);
     for n in 0..59 {
-        let s = xs[n + 10];
-        let f = weighting::weight_sample(s, n, &wz, &wp, &xs, &fs);
-        let x = syn[n + 11];
-        let t = synthesise_sample(x, n + 1, &aq, &syn);
-        fs[n + 10] = f;
-        syn[n + 11] = t;
-        xs[n + 11] = t;
+        step(
+            n,
+            &input,
+            &aq,
+            &wz,
+            &wp,
+            back,
+            beta,
+            &mut syn,
+            &mut xs,
+            &mut fs,
+            &mut p,
+            &mut out,
+        );
     }
-    let s = xs[69];
-    let f = weighting::weight_sample(s, 59, &wz, &wp, &xs, &fs);
-    fs[69] = f;
-    let p = harmonic_inputs(p_hist, fs);
-    let out = shape(p, lag as usize, beta);
+    end_sample(59, &wz, &wp, back, beta, &xs, &mut fs, &mut p, &mut out);
     let after = CombinedMem {
         syn: weighting::last_ten(&syn),
         wz: weighting::last_ten(&xs),

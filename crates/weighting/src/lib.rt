@@ -68,7 +68,7 @@ pub fn add_tap(f: f32, z: f32, x: f32, p: f32, past: f32) -> f32
 }
 
 // A delay that starts with a memory, oldest first.
-fn start_delay(memory: [f32; 10]) -> [f32; 70]
+pub fn start_delay(memory: [f32; 10]) -> [f32; 70]
     ensures { λ r. ⌜ behind 0 r ≡ memory ⌝ }
 {
     let mut delay = [0.0f32; 70];
@@ -79,7 +79,7 @@ fn start_delay(memory: [f32; 10]) -> [f32; 70]
 }
 
 // A delay: a memory, and the sixty samples after it.
-pub fn delayed(memory: [f32; 10], x: &[f32]) -> [f32; 70]
+fn delayed(memory: [f32; 10], x: &[f32]) -> [f32; 70]
     requires { ⌜ length (now x) ≡ 60 ⌝ }
     ensures { λ r. ⌜ Delay memory (now (x .entry)) r ⌝ }
 {

@@ -1,20 +1,42 @@
--- `combined::run` meets its contract: after n turns the delays are those of n samples, synthesis one ahead. Assumes nothing.
+-- `combined::run` meets its contract: after n turns the arrays are those of n steps from the first sample begun. Assumes nothing.
 use borrow.Author.Needs.{needs}
+use mathlib.Core.Path.{_≡_, refl, ap, _∙_}
+use mathlib.Core.List.{List}
+use Prim.Native.Nat.{_-_, _≤_, zero-le}
 use native.Mathlib.Omega.{arith}
-use mathlib.Core.Path.{refl}
-use Prim.Native.Nat.{_-_}
 use lib.ListN.{drop}
-use Rattle.combined.specs.Cascade.{settings}
-use Rattle.combined.proofs.Cascaded.{Cascaded, held, cascaded-none, cascaded-more, cascaded-end}
+use lib.Ieee.{Float}
+use Rattle.float.specs.Loop.{over}
+use Rattle.float.proofs.Loop.{Went, went-none, went-more, went-all}
+use Rattle.float.proofs.Table.{filled-none}
+use Rattle.weighting.specs.inner.Delay.{behind}
+use Rattle.combined.specs.declared.CombinedMem.{CombinedMem}
+use Rattle.combined.specs.declared.Combined.{Combined}
+use Rattle.combined.specs.Cascade.{Settings, settings, start, cascaded}
+use Rattle.combined.specs.inner.Step.{Arrays, arrays, begun, ended, stepped}
+use Rattle.combined.specs.Run.{done}
+use Rattle.combined.proofs.Steps.{begins, ends}
+use Rattle.combined.proofs.Stands.{Stands, answer, subframe}
 use Rattle.combined.proofs.run.Statement.{statement}
 use Rattle.combined.proofs.run.Tie as tie
 
--- the memory is the one that the delays start with, and the input stands in the delay that no sample is stored in before the loop
 abbrev Inv-loop : tie.InvT-loop
-Inv-loop lag beta aq wz wp p-hist syn₀ xs₀ fs₀ x s n₀ syn xs fs n = Cascaded (settings aq wz wp lag beta) (drop 10 fs₀) (held p-hist syn₀ xs₀ fs₀) n syn xs fs
+Inv-loop lag beta input aq wz wp syn₀ xs₀ fs₀ p₀ out₀ back n₀ syn xs fs p out n =
+    Went 0 59 (stepped (settings aq wz wp lag beta) input) (arrays syn₀ xs₀ fs₀ p₀ out₀) n (arrays syn xs fs p out)
 
 abbrev μ-loop : tie.MeasureT-loop
-μ-loop lag beta aq wz wp p-hist syn₀ xs₀ fs₀ x s n₀ syn xs fs n = 59 - n
+μ-loop lag beta input aq wz wp syn₀ xs₀ fs₀ p₀ out₀ back n₀ syn xs fs p out n = 59 - n
+
+-- the first sample begun, fifty-nine steps, the last sample ended, and what is copied out
+all : (q : Settings) (input : List Float) (mem : CombinedMem) (held first looped last : Arrays) {m₁ m₂ m₃ history : List Float}
+    → 18 ≤ q .lag → Stands q 0 (start mem) held
+    → first ≡ begun q input 0 held → looped ≡ over 0 59 (stepped q input) first → last ≡ ended q 59 looped
+    → m₁ ≡ behind 60 (last .syn) → m₂ ≡ behind 60 (last .xs) → m₃ ≡ behind 60 (last .fs) → history ≡ drop 60 (last .p)
+    → _≡_ {A = Combined} (record { status = 0; out = last .out; mem = record { syn = m₁; wz = m₂; wp = m₃; «p_hist» = history } })
+    (done (cascaded q input mem 60))
+all q input mem held first looped last low r e f g e₁ e₂ e₃ eh =
+    rw (e₁, e₂, e₃, eh)
+    (ap answer (g ∙ ap (ended q 59) (f ∙ ap (over 0 59 (stepped q input)) e)) ∙ subframe q input mem (omega arith) held r)
 
 pub run-spec : {M : Type 1} → statement M
 run-spec =
@@ -22,82 +44,32 @@ run-spec =
     (tie.spec
     Inv-loop
     μ-loop
-    -- slice-aggregate-delayed
-    (λ c. search needs)
-    -- delayed-requires
+    -- start-delay-requires
     (λ c κs. search needs)
-    -- slice-aggregate-delayed-2
-    (λ c. search needs)
-    -- delayed-requires-2
+    -- start-delay-requires-2
     (λ c κs. search needs)
-    -- slice-aggregate-delayed-3
-    (λ c. search needs)
-    -- delayed-requires-3
+    -- start-delay-requires-3
     (λ c κs. search needs)
-    -- array-read-x
-    (λ c. search needs)
-    -- synthesise-sample-requires
+    -- start-history-requires
     (λ c κs. search needs)
-    -- array-write-syn
-    (λ c. search needs)
-    -- array-write-xs
-    (λ c. search needs)
+    -- begin-sample-requires
+    (λ c κs. search needs)
     -- loop-holds
-    (λ c. search (needs, cascaded-none))
-    -- add-s
-    (λ c. search needs)
-    -- mul-s
-    (λ c. search needs)
-    -- array-read-s
-    (λ c. search needs)
-    -- weight-sample-requires
+    (λ c. went-none 0 59 _ _ zero-le)
+    -- step-requires
     (λ c κs. search needs)
-    -- add-x
-    (λ c. search needs)
-    -- mul-x
-    (λ c. search needs)
-    -- array-read-x-2
-    (λ c. search needs)
-    -- add-synthesise-sample
-    (λ c. search needs)
-    -- synthesise-sample-requires-2
-    (λ c κs. search needs)
-    -- add-fs
-    (λ c. search needs)
-    -- mul-fs
-    (λ c. search needs)
-    -- array-write-fs
-    (λ c. search needs)
-    -- add-syn
-    (λ c. search needs)
-    -- mul-syn
-    (λ c. search needs)
-    -- array-write-syn-2
-    (λ c. search needs)
-    -- add-xs
-    (λ c. search needs)
-    -- mul-xs
-    (λ c. search needs)
-    -- array-write-xs-2
-    (λ c. search needs)
     -- add-n
     (λ c. search needs)
     -- loop-less
     (λ c. search needs)
     -- loop-again
     (λ c.
-    let weighed = c .before .before .before in
-    let turned = weighed .before .before .before .before .before .before in
-    cascaded-more _ _ _ _ _ _ _ (turned .loop .inv) _ _ refl (weighed .weight-sample .ensures) (omega arith) _ _ refl (c .synthesise-sample2 .ensures))
-    -- array-read-s-2
-    (λ c. search needs)
-    -- weight-sample-requires-2
-    (λ c κs. search needs)
-    -- array-write-fs-2
-    (λ c. search needs)
-    -- harmonic-inputs-requires
-    (λ c κs. search needs)
-    -- shape-requires
+    -- past the five arrays that are lent to the step to be altered, and the four that it reads
+    let altered = c .before .before .before .before .before in
+    let read = altered .before .before .before .before in
+    let turned = read .before .before in
+    went-more 0 59 _ _ _ _ _ (omega arith) (c .step .ensures) (turned .loop .inv))
+    -- end-sample-requires
     (λ c κs. search needs)
     -- last-ten-requires
     (λ c κs. search needs)
@@ -110,15 +82,32 @@ run-spec =
     -- returns
     (λ c.
     -- from the last call back to the start
-    let poles = c .before in
-    let zeros = poles .before .before in
-    let synthesis = zeros .before .before in
-    let shaped = synthesis .before .before in
-    let inputs = shaped .before in
-    let weighed = inputs .before in
-    let left = weighed .before .before .before .before .before in
-    let delays = left .before .before .before .before .before in
-    let start = delays .before .before .before .before .before .before .before .before .before .before in
-    cascaded-end _ _ (start .pre .0) (delays .before .before .before .before .delayed .ensures) (delays .before .before .delayed2 .ensures) (delays .delayed3 .ensures)
-    (left .loop-test .left) refl (weighed .weight-sample2 .ensures) (inputs .harmonic-inputs .ensures) (shaped .shape .ensures)
-    (synthesis .last-ten .ensures) (zeros .last-ten2 .ensures) (poles .last-ten3 .ensures) (c .last-inputs .ensures) (left .before .loop .inv)))
+    let memory₃ = c .before in
+    let memory₂ = memory₃ .before .before in
+    let memory₁ = memory₂ .before .before in
+    let last = memory₁ .before .before in
+    let lent-last = last .before .before .before .before .before .before in
+    let left = lent-last .before in
+    let looped = left .before in
+    let first = looped .before in
+    let lent-first = first .before .before .before .before in
+    let history = lent-first .before in
+    let delay₃ = history .before in
+    let delay₂ = delay₃ .before in
+    let delay₁ = delay₂ .before in
+    let given = delay₁ .before .before .before .before .before in
+    let held = arrays (delay₁ .start-delay .result) (delay₂ .start-delay2 .result) (delay₃ .start-delay3 .result) (history .start-history .result) _ in
+    let turned = arrays (looped .loop .syn) (looped .loop .xs) (looped .loop .fs) (looped .loop .p) (looped .loop .out) in
+    all _ _ _ held _ turned _ (given .pre .0)
+    (record {
+      syn = record { long = search (needs, delay₁ .start-delay .ok); held = delay₁ .start-delay .ensures };
+      wz = record { long = search (needs, delay₂ .start-delay2 .ok); held = delay₂ .start-delay2 .ensures };
+      wp = record { long = search (needs, delay₃ .start-delay3 .ok); held = delay₃ .start-delay3 .ensures };
+      long = search (needs, history .start-history .ok);
+      harmonic = history .start-history .ensures;
+      out = filled-none 60 _ _ refl;
+    })
+    (begins _ 0 held _ (first .begin-sample .ensures))
+    (went-all 0 59 _ _ _ turned (left .loop-test .left) (looped .loop .inv))
+    (ends _ 59 turned (last .end-sample .ensures))
+    (memory₁ .last-ten .ensures) (memory₂ .last-ten2 .ensures) (memory₃ .last-ten3 .ensures) (c .last-inputs .ensures)))
