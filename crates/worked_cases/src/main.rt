@@ -1,6 +1,8 @@
 // The worked cases of document 01 that are run, E11 to E14, with E11's step as request E1 has it, the limits of narrowing and of
-// the cosine rule, and whole frames as request E2 has them: one line each, and how many passed.
+// the cosine rule, whole frames as request E2 has them, and the combined filter's memories, which request E3 leaves as they
+// were: one line each, and how many passed.
 mod cosines;
+mod filters;
 mod frames;
 mod frequencies;
 mod lists;
@@ -266,6 +268,24 @@ fn frame_refusals(tally: Tally) -> Tally {
     )
 }
 
+fn filter_cases(tally: Tally) -> Tally {
+    let t = case(
+        tally,
+        b"an impulse over a history of 1 to 145 at lag 145: 0.75, -0.5, -0.75, -1, .., and a history of 61 to 145, 1 and zeros",
+        filters::oldest_input(),
+    );
+    let t = case(
+        t,
+        b"the same at lag 85: -14.25, -15.5, -15.75, -16, ..",
+        filters::input_at_60(),
+    );
+    case(
+        t,
+        b"memories of 1 to 10, 11 to 20 and 21 to 30, and no input: -3, 0.875, -0.28125, 0.1015625, ..",
+        filters::three_memories(),
+    )
+}
+
 fn main() {
     let first = frequency_cases(Tally {
         passed: 0,
@@ -275,7 +295,8 @@ fn main() {
     let third = narrowing_cases(second);
     let fourth = step_cases(third);
     let fifth = cosine_cases(fourth);
-    let tally = frame_cases(fifth);
+    let sixth = frame_cases(fifth);
+    let tally = filter_cases(sixth);
     io::print_decimal(STDOUT_FILENO, tally.passed);
     io::write_all(STDOUT_FILENO, b" passed, ");
     io::print_decimal(STDOUT_FILENO, tally.failed);
