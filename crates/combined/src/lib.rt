@@ -101,8 +101,10 @@ fn begin_sample(
     xs: &mut [f32; 70],
 )
     requires { ⌜ n < 60 ⌝ }
-    ensures synthesis { λ _. ⌜ now (syn .exit) ≡ set (now (syn .entry)) (n + 10) (synthetic (now (aq .entry)) (now (input .entry)) n (now (syn .entry))) ⌝ }
-    ensures weighting { λ _. ⌜ now (xs .exit) ≡ set (now (xs .entry)) (n + 10) (synthetic (now (aq .entry)) (now (input .entry)) n (now (syn .entry))) ⌝ }
+    ensures synthesis { λ _. ⌜ now (syn .exit) ≡ set (now (syn .entry)) (n + 10)
+        (synthetic (now (aq .entry)) (now (input .entry)) n (now (syn .entry))) ⌝ }
+    ensures weighting { λ _. ⌜ now (xs .exit) ≡ set (now (xs .entry)) (n + 10)
+        (synthetic (now (aq .entry)) (now (input .entry)) n (now (syn .entry))) ⌝ }
 {
     let s = synthesise_sample(input[n], n, aq, syn);
     syn[n + 10] = s;
@@ -122,8 +124,10 @@ fn end_sample(
     out: &mut [f32; 60],
 )
     requires { ⌜ (n < 60) × (lag ≤ reach) ⌝ }
-    ensures weighted { λ _. ⌜ now (fs .exit) ≡ set (now (fs .entry)) (n + 10) (formant (now (wz .entry)) (now (wp .entry)) n (now (xs .entry)) (now (fs .entry))) ⌝ }
-    ensures harmonic { λ _. ⌜ now (p .exit) ≡ set (now (p .entry)) (n + reach) (formant (now (wz .entry)) (now (wp .entry)) n (now (xs .entry)) (now (fs .entry))) ⌝ }
+    ensures weighted { λ _. ⌜ now (fs .exit) ≡ set (now (fs .entry)) (n + 10)
+        (formant (now (wz .entry)) (now (wp .entry)) n (now (xs .entry)) (now (fs .entry))) ⌝ }
+    ensures harmonic { λ _. ⌜ now (p .exit) ≡ set (now (p .entry)) (n + reach)
+        (formant (now (wz .entry)) (now (wp .entry)) n (now (xs .entry)) (now (fs .entry))) ⌝ }
     ensures shaped { λ _. ⌜ now (out .exit) ≡ set (now (out .entry)) n (shaped lag beta (now (p .exit)) n) ⌝ }
 {
     let s = xs[n + 10];
@@ -149,7 +153,9 @@ fn step(
     out: &mut [f32; 60],
 )
     requires { ⌜ (n < 59) × (lag ≤ reach) ⌝ }
-    ensures { λ _. ⌜ arrays (now (syn .exit)) (now (xs .exit)) (now (fs .exit)) (now (p .exit)) (now (out .exit)) ≡ stepped (settings (now (aq .entry)) (now (wz .entry)) (now (wp .entry)) lag beta) (now (input .entry)) n (arrays (now (syn .entry)) (now (xs .entry)) (now (fs .entry)) (now (p .entry)) (now (out .entry))) ⌝ }
+    ensures { λ _. ⌜ arrays (now (syn .exit)) (now (xs .exit)) (now (fs .exit)) (now (p .exit)) (now (out .exit))
+        ≡ stepped (settings (now (aq .entry)) (now (wz .entry)) (now (wp .entry)) lag beta) (now (input .entry)) n
+        (arrays (now (syn .entry)) (now (xs .entry)) (now (fs .entry)) (now (p .entry)) (now (out .entry))) ⌝ }
 {
     end_sample(n, wz, wp, lag, beta, xs, fs, p, out);
     begin_sample(n + 1, input, aq, syn, xs);

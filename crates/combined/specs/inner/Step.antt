@@ -1,7 +1,7 @@
 -- The step of the combined filter in the arrays that a subframe is worked in. The number of the sample is the position in each array: a step
 -- alters at most one number in each, and nothing is moved until the subframe ends. Its law, that sixty samples so are the cascade's: `subframe` in
 -- proofs/Stands.antt. Vocabulary of the code, for §2.12's filter; document 02, E3. Assumes nothing.
-use Prim.Native.Nat.{ℕ, _+_}
+use Prim.Native.Nat.{ℕ, _+_, _<_}
 use mathlib.Core.Path.{_≡_}
 use mathlib.Core.List.{List}
 use lib.ListN.{length, set}
@@ -53,16 +53,27 @@ sampled q input n a = ended q n (begun q input n a)
 unfoldable pub stepped : Settings → List Float → ℕ → Arrays → Arrays
 stepped q input n a = begun q input (n + 1) (ended q n a)
 
--- lists of one length, equal at every place but one
-pub record AtMostOne (before after : List Float) : Type 0 where
-  pub place : ℕ
+-- lists of one length, equal at every place but this one
+pub record AtMostOne (place : ℕ) (before after : List Float) : Type 0 where
   pub long : length after ≡ length before
   pub others : (j : ℕ) → (j ≡ place → ⊥) → at after j ≡ at before j
 
--- the same of each array
-pub record AltersOne (before after : Arrays) : Type 0 where
-  pub syn : AtMostOne (before .syn) (after .syn)
-  pub xs : AtMostOne (before .xs) (after .xs)
-  pub fs : AtMostOne (before .fs) (after .fs)
-  pub p : AtMostOne (before .p) (after .p)
-  pub out : AtMostOne (before .out) (after .out)
+-- the same of each array: at position m, where a sample is synthesised, and at position n, where one is weighted and shaped
+pub record AltersOne (m n : ℕ) (before after : Arrays) : Type 0 where
+  pub syn : AtMostOne (m + 10) (before .syn) (after .syn)
+  pub xs : AtMostOne (m + 10) (before .xs) (after .xs)
+  pub fs : AtMostOne (n + 10) (before .fs) (after .fs)
+  pub p : AtMostOne (n + reach) (before .p) (after .p)
+  pub out : AtMostOne n (before .out) (after .out)
+
+-- lists that are equal at every place before this one
+abbrev pub EqualBefore : ℕ → List Float → List Float → Type 0
+EqualBefore place before after = (j : ℕ) → j < place → at after j ≡ at before j
+
+-- of each array, all that lies before these positions is where it was: memory, history and every sample that is done
+pub record Stays (m n : ℕ) (before after : Arrays) : Type 0 where
+  pub syn : EqualBefore (m + 10) (before .syn) (after .syn)
+  pub xs : EqualBefore (m + 10) (before .xs) (after .xs)
+  pub fs : EqualBefore (n + 10) (before .fs) (after .fs)
+  pub p : EqualBefore (n + reach) (before .p) (after .p)
+  pub out : EqualBefore n (before .out) (after .out)
