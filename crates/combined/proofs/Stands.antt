@@ -21,10 +21,9 @@ use Rattle.combined.specs.declared.CombinedMem.{CombinedMem}
 use Rattle.combined.specs.declared.Combined.{Combined}
 use Rattle.combined.specs.Memory.{reach}
 use Rattle.combined.specs.Cascade.{Settings, Cascade, synthesised, sample, start, cascaded}
-use Rattle.combined.specs.inner.Step.{Arrays, synthetic, formant, begun, ended, sampled, stepped}
+use Rattle.combined.specs.inner.Step.{Arrays, synthetic, formant, begun, ended, sampled}
 use Rattle.combined.specs.Run.{done}
 use Rattle.combined.specs.inner.Shaped.{shaped}
-use Rattle.combined.proofs.Steps.{steps-are-samples}
 use Rattle.combined.proofs.History.{harmonic-length, out-shaped}
 
 -- a delay that holds a memory at sample n
@@ -120,8 +119,7 @@ module _ (q : Settings) (input : List Float) (mem : CombinedMem) (low : 1 ≤ q 
       rw (history, outputs, r .syn .held, r .wz .held, r .wp .held, inputs)
 
   -- from arrays that hold the memory given
-  pub subframe : (a : Arrays) → Stands q 0 (start mem) a
-      → answer (ended q 59 (over 0 59 (stepped q input) (begun q input 0 a))) ≡ done (cascaded q input mem 60)
+  pub subframe : (a : Arrays) → Stands q 0 (start mem) a → answer (over 0 60 (sampled q input) a) ≡ done (cascaded q input mem 60)
   subframe a r =
       let full : length (mem .«p_hist») ≡ reach = sym (ap length (r .harmonic)) ∙ length-take-le reach (a .p) (omega (arith, r .long)) in
-      ap answer (steps-are-samples q input a 59) ∙ stands-done full _ (stands-all q input (start mem) a r 60 (le-refl 60))
+      stands-done full _ (stands-all q input (start mem) a r 60 (le-refl 60))

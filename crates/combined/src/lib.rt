@@ -5,12 +5,13 @@ ghost use mathlib.Core.List.{_∷_, []};
 ghost use Prim.Native.Nat.{_+_, _<_, _≤_};
 ghost use lib.ListN.{take, drop, set};
 ghost use Rattle.float.specs.Finite.{notFinite};
+ghost use Rattle.float.specs.Loop.{over};
 ghost use Rattle.float.specs.Refusal.{any, first};
 ghost use Rattle.float.specs.Single.{_⊖_, _⊗_};
 ghost use Rattle.weighting.specs.inner.Delay.{behind};
 ghost use Rattle.combined.specs.Memory.{reach, atRest, floats};
 ghost use Rattle.combined.specs.Cascade.{settings, synthesised, cascaded};
-ghost use Rattle.combined.specs.inner.Step.{arrays, synthetic, formant, stepped};
+ghost use Rattle.combined.specs.inner.Step.{arrays, synthetic, formant, sampled, stepped};
 ghost use Rattle.combined.specs.Run.{done, refusal, combinedRefusals, runCombined};
 ghost use Rattle.combined.specs.inner.Shaped.{shaped};
 
@@ -161,8 +162,35 @@ fn step(
     begin_sample(n + 1, input, aq, syn, xs);
 }
 
+// Sixty samples in the arrays of a subframe. A step ends one sample and begins the next, so that the sums of both, each a chain of its own,
+// run side by side.
+fn sixty_samples(
+    input: &[f32; 60],
+    aq: &[f32; 11],
+    wz: &[f32; 10],
+    wp: &[f32; 10],
+    lag: usize,
+    beta: f32,
+    syn: &mut [f32; 70],
+    xs: &mut [f32; 70],
+    fs: &mut [f32; 70],
+    p: &mut [f32; REACH + 60],
+    out: &mut [f32; 60],
+)
+    requires { ⌜ lag ≤ reach ⌝ }
+    ensures { λ _. ⌜ arrays (now (syn .exit)) (now (xs .exit)) (now (fs .exit)) (now (p .exit)) (now (out .exit))
+        ≡ over 0 60 (sampled (settings (now (aq .entry)) (now (wz .entry)) (now (wp .entry)) lag beta) (now (input .entry)))
+        (arrays (now (syn .entry)) (now (xs .entry)) (now (fs .entry)) (now (p .entry)) (now (out .entry))) ⌝ }
+{
+    begin_sample(0, input, aq, syn, xs);
+    for n in 0..59 {
+        step(n, input, aq, wz, wp, lag, beta, syn, xs, fs, p, out);
+    }
+    end_sample(59, wz, wp, lag, beta, xs, fs, p, out);
+}
+
 // One subframe. Memory and history are copied into the arrays before the first sample and out of them after the last; between, nothing is
-// moved. A step ends one sample and begins the next, so that the sums of both, each a chain of its own, run side by side.
+// moved.
 fn run(
     mem: CombinedMem,
     input: [f32; 60],
@@ -185,24 +213,19 @@ fn run(
     let mut p = start_history(p_hist);
     let mut out = [0.0f32; 60];
     let back = lag as usize;
-    begin_sample(0, &input, &aq, &mut syn, &mut xs);
-    for n in 0..59 {
-        step(
-            n,
-            &input,
-            &aq,
-            &wz,
-            &wp,
-            back,
-            beta,
-            &mut syn,
-            &mut xs,
-            &mut fs,
-            &mut p,
-            &mut out,
-        );
-    }
-    end_sample(59, &wz, &wp, back, beta, &xs, &mut fs, &mut p, &mut out);
+    sixty_samples(
+        &input,
+        &aq,
+        &wz,
+        &wp,
+        back,
+        beta,
+        &mut syn,
+        &mut xs,
+        &mut fs,
+        &mut p,
+        &mut out,
+    );
     let after = CombinedMem {
         syn: weighting::last_ten(&syn),
         wz: weighting::last_ten(&xs),
