@@ -33,7 +33,7 @@ enum role {
     TAPS,        /* a stable filter without it */
     COSINES,     /* ten cosines that fall */
     FREQUENCIES, /* ten frequencies that rise */
-    INDEX,       /* an index of the quantiser */
+    INDEX,       /* an index of the quantiser: 24 bits */
     SPACING,     /* a distance of lines in Hz */
     CHOICE,      /* a subframe, or more */
     HALF,        /* a half of a frame */

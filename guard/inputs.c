@@ -111,7 +111,7 @@ static void make_numbers(enum role role, struct random *random, double *x, size_
         rising(random, 0, 32768, ten);
         ten[10] = 0;
         break;
-    case INDEX: x[0] = random_bits(random); return;
+    case INDEX: x[0] = random_bits(random) >> 8; return;
     case SPACING: x[0] = random_between(random, 0, 400); return;
     case CHOICE: x[0] = (double)random_below(random, 5); return;
     case HALF: x[0] = (double)random_below(random, 2); return;

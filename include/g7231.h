@@ -39,9 +39,10 @@
 extern "C" {
 #endif
 
-#define G7231_VERSION "0.4.0"
+#define G7231_VERSION "0.5.0"
 
 enum {
+    G7231_BANDS = 3,     /* bands of a line set, each with a row of the code tables */
     G7231_ORDER = 10,    /* lines of a set, taps of a filter, values of its memory */
     G7231_FILTER = 11,   /* coefficients of a filter, the leading 1 among them */
     G7231_LAG_MIN = 18,  /* the shortest pitch lag */
@@ -62,7 +63,8 @@ enum {
     G7231_NOT_FINITE = 5,   /* an infinity or a NaN */
     G7231_MAGNITUDE = 6,    /* a number out of range */
     G7231_NO_LINE_SET = 7,  /* the filter has no set of ten line frequencies */
-    G7231_FRAME_LENGTH = 8  /* a frame of other than 360 samples */
+    G7231_FRAME_LENGTH = 8, /* a frame of other than 360 samples */
+    G7231_INDEX = 9         /* an index of more than 24 bits */
 };
 
 /* What a status means, in words; never null. */
@@ -168,14 +170,31 @@ uint32_t g7231_resting_set(float set[G7231_ORDER]);
 uint32_t g7231_quantise_lsp_freq(const float p[G7231_ORDER], const float prev[G7231_ORDER], uint32_t *index,
                                  float set[G7231_ORDER]);
 
-/* The set of an index after the previous set.
+/* The set of an index after the previous set. An index that the line lost is no
+ * word at all: nothing is decoded for it, and the decoder keeps its set.
  * Takes:
- *   index: index, of which the bits above 24 are ignored
+ *   index: index, 24 bits
  *   prev: frequencies, the last call's set, or the resting set
  * Refuses:
+ *   9 G7231_INDEX: the index is above 16,777,215
  *   5 G7231_NOT_FINITE: any of the previous set
  *   6 G7231_MAGNITUDE: any of it above 65,536 in magnitude */
 uint32_t g7231_decode_lsp_freq(uint32_t index, const float prev[G7231_ORDER], float set[G7231_ORDER]);
+
+/* The row of each band that an index names, band 0's first: the index's three
+ * bytes, the highest first. Has no bare form.
+ * Takes:
+ *   index: index, 24 bits
+ * Refuses:
+ *   9 G7231_INDEX: the index is above 16,777,215 */
+uint32_t g7231_split_lsp_index(uint32_t index, uint8_t bands[G7231_BANDS]);
+
+/* The index of three rows, one a band: what g7231_split_lsp_index splits.
+ * Has no bare form.
+ * Takes:
+ *   bands: any, the row of each band, band 0's first
+ * Refuses: nothing */
+uint32_t g7231_combine_lsp_index(const uint8_t bands[G7231_BANDS], uint32_t *index);
 
 /* Spreads lines that stand closer than a spacing, in at most ten passes;
  * *converged is 1 where a pass met no pair too close, else 0. Afterwards the first

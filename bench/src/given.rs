@@ -63,6 +63,10 @@ impl Given {
         self.each(name, |values| values[0] as u32)
     }
 
+    pub fn bytes<const N: usize>(&self, name: &str) -> Vec<[u8; N]> {
+        self.each(name, |values| std::array::from_fn(|i| values[i] as u8))
+    }
+
     pub fn sizes(&self, name: &str) -> Vec<usize> {
         self.each(name, |values| values[0] as usize)
     }

@@ -39,6 +39,8 @@ pub fn run(rust: &Rust, given: &Given) -> Option<Run> {
         lsp_freq_to_cosines(freq: arrays) => lsp_freq_to_cosines(freq);
         quantise_lsp_freq(p: arrays, prev: arrays) => quantise_lsp_freq(p, prev);
         decode_lsp_freq(index: numbers, prev: arrays) => decode_lsp_freq(*index, prev);
+        split_lsp_index(index: numbers) => split_lsp_index(*index);
+        combine_lsp_index(bands: bytes) => combine_lsp_index(*bands);
         enforce_lsp_stability(cosines: arrays, spacing_hz: singles) => enforce_lsp_stability(cosines, *spacing_hz);
         interpolate_lsp(choice: sizes, prev: arrays, cur: arrays) => interpolate_lsp(*choice, prev, cur);
         lsp_to_lpc(lsp: arrays) => lsp_to_lpc(lsp);

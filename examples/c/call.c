@@ -170,10 +170,12 @@ struct decoder {
     float set[LINES], lines[LINES];
 };
 
-/* The same set, lines and filters from the index alone. */
-static void decode(struct decoder *decoder, uint32_t index, float a[4][G7231_FILTER])
+/* The same set, lines and filters from the index alone, of which three bytes were sent. */
+static void decode(struct decoder *decoder, const uint8_t sent[G7231_BANDS], float a[4][G7231_FILTER])
 {
+    uint32_t index;
     float set[LINES], last[LINES];
+    DONE(g7231_combine_lsp_index, (sent, &index));
     DONE(g7231_decode_lsp_freq, (index, decoder->set, set));
     memcpy(decoder->set, set, sizeof set);
     memcpy(last, decoder->lines, sizeof last);
@@ -251,6 +253,7 @@ int main(int words, char **word)
         g7231_frame frame, again;
         struct taps taps[4];
         float x[SPAN], a[4][G7231_FILTER];
+        uint8_t sent[G7231_BANDS];
 
         DONE(g7231_code_frame, (&caller, samples + k * FRAME, SPAN, spacing_hz, &frame));
         hash(&coded, &frame.index, sizeof frame.index);
@@ -268,7 +271,8 @@ int main(int words, char **word)
         same(&caller, &stepper, sizeof caller, k, "the frame call and the doors one by one leave different memories");
         combine(&memory, x, &frame, taps);
 
-        decode(&decoder, frame.index, a);
+        DONE(g7231_split_lsp_index, (frame.index, sent));
+        decode(&decoder, sent, a);
         same(decoder.set, caller.set, sizeof caller.set, k, "the ends have different sets");
         same(decoder.lines, caller.lines, sizeof caller.lines, k, "the ends have different lines");
         same(a, frame.a, sizeof a, k, "the ends have different filters");

@@ -49,4 +49,16 @@ mod tests {
         let fallen = |k: usize| (-0.5f32).powi(60 - k as i32);
         assert_eq!([after.syn, after.wz, after.wp], [std::array::from_fn(fallen); 3]);
     }
+
+    /// The cases of request E4 that are decoded. The published text ignores what stands above the 24 bits.
+    #[test]
+    fn the_published_decoder_meets_the_cases_of_an_index() {
+        let Rust { decode_lsp_freq, split_lsp_index, combine_lsp_index, .. } = rust().unwrap().published;
+        let (resting, most) = (crate::makers::resting(), 16_777_215);
+        let wanted = [4824.0, 9514.0, 13702.0, 14841.0, 19206.0, 21407.0, 22675.0, 25777.0, 28051.0, 29036.0];
+        assert_eq!(decode_lsp_freq(most, &resting), wanted);
+        assert_eq!(decode_lsp_freq(50_397_699, &resting), decode_lsp_freq(66_051, &resting));
+        assert_eq!([66_051, 4_278_256_131].map(split_lsp_index), [[1, 2, 3]; 2]);
+        assert_eq!((split_lsp_index(most), combine_lsp_index([255; 3])), ([255; 3], most));
+    }
 }

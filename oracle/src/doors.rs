@@ -22,6 +22,7 @@ fn kind(parameter: &Parameter) -> Option<Kind> {
         (_, Element::F32, Many::Fixed(n)) => Kind::Singles(n),
         (_, Element::F64, Many::Fixed(n)) => Kind::Doubles(n),
         (_, Element::U32, Many::Fixed(n)) => Kind::Numbers(n),
+        (_, Element::U8, Many::Fixed(n)) => Kind::Bytes(n),
         (Way::Read, Element::F32, Many::Slice(_)) => Kind::Samples,
         (Way::Read, Element::I16, Many::Slice(_)) => Kind::Shorts,
         _ => panic!("the parameter {} has no form in words yet", parameter.name),
@@ -62,7 +63,7 @@ impl Buffer {
     fn new(words: &[u32], size: usize, random: &mut Random) -> Buffer {
         let units = (words.len() * size).div_ceil(8);
         let mut store: Vec<u64> = (0..2 * GUARD + units).map(|_| random.next()).collect();
-        let mask = u64::MAX >> (64 - 8 * size);
+        let mask = mask(size);
         for (i, word) in words.iter().enumerate() {
             let (unit, shift) = place(i, size);
             store[unit] = store[unit] & !(mask << shift) | (u64::from(*word) & mask) << shift;
@@ -78,7 +79,7 @@ impl Buffer {
     fn words(&self) -> Vec<u32> {
         let word = |i| {
             let (unit, shift) = place(i, self.size);
-            (self.store[unit] >> shift) as u32
+            (self.store[unit] >> shift & mask(self.size)) as u32
         };
         (0..self.count).map(word).collect()
     }
@@ -99,6 +100,11 @@ impl Buffer {
 /// The unit that an element stands in, and how many bits stand before it there.
 fn place(i: usize, size: usize) -> (usize, usize) {
     (GUARD + i * size / 8, i * size % 8 * 8)
+}
+
+/// The bits of an element.
+fn mask(size: usize) -> u64 {
+    u64::MAX >> (64 - 8 * size)
 }
 
 /// Patterns that a computation could alter in passing: NaNs that signal and NaNs with a payload.
@@ -129,12 +135,9 @@ impl Frame {
         let mut part = || parts.next().unwrap_or_default();
         let hand = |parameter: &Parameter| match (kind(parameter), parameter.way) {
             (None, _) => Handed::Length,
-            (Some(kind), Way::Made) => Handed::Lent(Buffer::new(&fill(kind.words(), random), 4, random)),
+            (Some(kind), Way::Made) => Handed::Lent(Buffer::new(&fill(kind.words(), random), size_of(kind), random)),
             (Some(kind), Way::Value) => Handed::Value(value(kind, part())),
-            (Some(kind), Way::Read | Way::Kept) => {
-                let size = if matches!(kind, Kind::Shorts) { 2 } else { 4 };
-                Handed::Lent(Buffer::new(part(), size, random))
-            }
+            (Some(kind), Way::Read | Way::Kept) => Handed::Lent(Buffer::new(part(), size_of(kind), random)),
         };
         Frame { door, handed: door.parameters.iter().map(hand).collect() }
     }
@@ -193,6 +196,15 @@ impl Frame {
             }
         }
         None
+    }
+}
+
+/// The bytes of memory that a word of a lent field stands for.
+fn size_of(kind: Kind) -> usize {
+    match kind {
+        Kind::Bytes(_) => 1,
+        Kind::Shorts => 2,
+        _ => 4,
     }
 }
 

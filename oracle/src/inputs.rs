@@ -206,6 +206,9 @@ impl Source {
             let (field, part) = (&self.takes[at], &mut parts[at]);
             if field.is_short() {
                 damage_shorts(part, random);
+            } else if field.is_byte() {
+                let place = random.below(part.len());
+                part[place] = random.bits() >> 24;
             } else if !field.is_single() {
                 let limit = *random.pick(&WORD_LIMITS);
                 *part = scalar(field, if random.once_in(4) { random.next() } else { limit });
@@ -228,7 +231,7 @@ impl Source {
         parts
     }
 
-    /// Every single and every sample of 16 bits of a likely input replaced by random bits: the singles any at all, or with
+    /// Every single, sample of 16 bits and byte of a likely input replaced by random bits: the singles any at all, or with
     /// exponents in one band.
     fn random_bits(&self, random: &mut Random) -> Parts {
         let mut parts = (self.likely)(random);
@@ -245,6 +248,8 @@ impl Source {
                 }
             } else if field.is_short() {
                 part.iter_mut().for_each(|word| *word = random.bits() >> 16);
+            } else if field.is_byte() {
+                part.iter_mut().for_each(|word| *word = random.bits() >> 24);
             }
         }
         parts

@@ -30,7 +30,15 @@ pub fn quantise_lsp_freq(random: &mut Random) -> Parts {
 }
 
 pub fn decode_lsp_freq(random: &mut Random) -> Parts {
-    vec![vec![random.bits()], bits(&decoded(random))]
+    vec![index(random), bits(&decoded(random))]
+}
+
+pub fn split_lsp_index(random: &mut Random) -> Parts {
+    vec![index(random)]
+}
+
+pub fn combine_lsp_index(random: &mut Random) -> Parts {
+    vec![[0; 3].map(|_| random.bits() >> 24).to_vec()]
 }
 
 pub fn enforce_lsp_stability(random: &mut Random) -> Parts {

@@ -126,6 +126,18 @@ pub fn lag(random: &mut Random, low: u32, high: u32) -> Vec<u32> {
     vec![low + random.below((high - low + 1) as usize) as u32]
 }
 
+/// An index; now and then any word.
+pub fn index(random: &mut Random) -> Vec<u32> {
+    vec![if random.once_in(8) { random.bits() } else { random.bits() >> 8 }]
+}
+
+/// Words at and next to the bound of an index, a length byte on top, and the longest.
+pub fn index_limit(random: &mut Random) -> Vec<u32> {
+    let taken = [0, 1, 0x0001_0203, 0x00ff_fffe, 0x00ff_ffff];
+    let refused = [0x0100_0000, 0x0100_0001, 0x0301_0203, 0x8000_0000, 0xff00_0000, 0xff01_0203, 0xffff_ffff];
+    vec![if random.once_in(2) { *random.pick(&taken) } else { *random.pick(&refused) }]
+}
+
 pub fn spacing(random: &mut Random) -> Vec<u32> {
     let named = [31.25f32, 62.5, 0.0, -0.0, 400.0, 0.1, 2.546479];
     let any = random.between(0.0, 400.0) as f32;

@@ -1,4 +1,5 @@
-//! The fifteen operations of document 01 and the two of request E2: each ties a door to the Rust's answer and to its inputs.
+//! The fifteen operations of document 01, the two of request E2 and the two of request E4: each ties a door to the Rust's
+//! answer and to its inputs.
 //!
 //! What a door takes and gives is the header's to say. Here stands what the header cannot say.
 
@@ -23,7 +24,7 @@ mod answers {
 type Measure = fn(&Seen, &mut Distances);
 
 pub struct Operation {
-    /// From 1: its place in document 01, and then those of request E2.
+    /// From 1: its place in document 01, and then those of requests E2 and E4.
     pub number: u32,
     pub name: &'static str,
     pub door: &'static Door,
@@ -50,7 +51,7 @@ macro_rules! operations {
     }};
 }
 
-/// In document 01's order, and last those of request E2: the distance to the published Rust, and how many answers are stored.
+/// In document 01's order, and last those of requests E2 and E4: the distance to the published Rust, and how many answers are stored.
 pub static OPERATIONS: LazyLock<Vec<Operation>> = LazyLock::new(|| {
     operations! {
         lpc_analysis: None, 80;
@@ -70,6 +71,8 @@ pub static OPERATIONS: LazyLock<Vec<Operation>> = LazyLock::new(|| {
         combined_impulse_response: None, 100;
         new_coder: None, 1;
         code_frame: Some(distances::frame), 40;
+        split_lsp_index: None, 200;
+        combine_lsp_index: None, 100;
     }
 });
 

@@ -15,6 +15,8 @@ pub const RUST: Rust = Rust {
     lsp_freq_to_cosines: spec_lsp::lsp_freq_to_cosines,
     quantise_lsp_freq: spec_lsp::quantise_lsp_freq,
     decode_lsp_freq: spec_lsp::decode_lsp_freq,
+    split_lsp_index: spec_lsp::split_lsp_index,
+    combine_lsp_index: spec_lsp::combine_lsp_index,
     enforce_lsp_stability,
     interpolate_lsp,
     lsp_to_lpc,

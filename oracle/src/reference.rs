@@ -1,4 +1,5 @@
-//! The fifteen operations as document 01 has them: its refusals, in its order, and then the Rust's function.
+//! The fifteen operations as document 01 has them, and the splitting and combining of an index as request E4 has them: the
+//! refusals, in their order, and then the Rust's function.
 //!
 //! Each takes the words of its input and answers the words of its result, or the number of its refusal.
 
@@ -25,6 +26,8 @@ pub struct Rust {
     pub lsp_freq_to_cosines: fn(&Ten) -> Ten,
     pub quantise_lsp_freq: fn(&Ten, &Ten) -> (u32, Ten),
     pub decode_lsp_freq: fn(u32, &Ten) -> Ten,
+    pub split_lsp_index: fn(u32) -> [u8; 3],
+    pub combine_lsp_index: fn([u8; 3]) -> u32,
     pub enforce_lsp_stability: fn(&Ten, f32) -> (Ten, bool),
     pub interpolate_lsp: fn(usize, &Ten, &Ten) -> Ten,
     pub lsp_to_lpc: fn(&Ten) -> Eleven,
@@ -45,6 +48,7 @@ const LAG: u32 = 4;
 const NOT_FINITE: u32 = 5;
 const MAGNITUDE: u32 = 6;
 const NO_LINE_SET: u32 = 7;
+const INDEX: u32 = 9;
 
 fn refuse(status: u32, when: bool) -> Result<(), u32> {
     if when {
@@ -60,6 +64,11 @@ fn finite(lists: &[&[f32]]) -> Result<(), u32> {
 
 fn in_magnitude(lists: &[&[f32]]) -> Result<(), u32> {
     refuse(MAGNITUDE, lists.iter().any(|list| list.iter().any(|x| x.abs() > 65_536.0)))
+}
+
+/// The Rust ignores what stands above the 24 bits.
+fn in_24_bits(index: u32) -> Result<(), u32> {
+    refuse(INDEX, index > 16_777_215)
 }
 
 pub fn lpc_analysis(rust: &Rust, mut given: Reader) -> Answer {
@@ -100,9 +109,20 @@ pub fn quantise_lsp_freq(rust: &Rust, mut given: Reader) -> Answer {
 
 pub fn decode_lsp_freq(rust: &Rust, mut given: Reader) -> Answer {
     let (index, prev) = (given.number(), given.singles());
+    in_24_bits(index)?;
     finite(&[&prev])?;
     in_magnitude(&[&prev])?;
     Ok(Words::default().singles(&(rust.decode_lsp_freq)(index, &prev)))
+}
+
+pub fn split_lsp_index(rust: &Rust, mut given: Reader) -> Answer {
+    let index = given.number();
+    in_24_bits(index)?;
+    Ok(Words::default().bytes(&(rust.split_lsp_index)(index)))
+}
+
+pub fn combine_lsp_index(rust: &Rust, mut given: Reader) -> Answer {
+    Ok(Words::default().number((rust.combine_lsp_index)(given.bytes())))
 }
 
 pub fn enforce_lsp_stability(rust: &Rust, mut given: Reader) -> Answer {

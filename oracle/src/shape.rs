@@ -1,7 +1,7 @@
 //! What stands in an input and in an answer: a list of fields, each so many 32-bit words.
 //!
 //! A single is its bits. A double and a machine word (a length, place, half or choice) are two words, high then low.
-//! A list of samples is its length and then its singles, or the 16 bits of each sample in a word.
+//! A list of samples is its length and then its singles, or the 16 bits of each sample in a word. A byte is a word too.
 
 /// What stands in a field.
 #[derive(Clone, Copy)]
@@ -20,6 +20,8 @@ pub enum Kind {
     Number,
     /// So many of them, lent.
     Numbers(usize),
+    /// So many bytes, lent, one a word.
+    Bytes(usize),
     /// A machine word.
     Word,
 }
@@ -28,7 +30,7 @@ impl Kind {
     /// The number of words, where it is fixed.
     pub fn words(self) -> usize {
         match self {
-            Kind::Singles(n) | Kind::Numbers(n) => n,
+            Kind::Singles(n) | Kind::Numbers(n) | Kind::Bytes(n) => n,
             Kind::Doubles(n) => 2 * n,
             Kind::Single | Kind::Number => 1,
             Kind::Word => 2,
@@ -59,6 +61,11 @@ impl Field {
     /// Whether its words are samples of 16 bits.
     pub fn is_short(&self) -> bool {
         matches!(self.kind, Kind::Shorts)
+    }
+
+    /// Whether its words are bytes.
+    pub fn is_byte(&self) -> bool {
+        matches!(self.kind, Kind::Bytes(_))
     }
 
     /// Whether it has any length.

@@ -59,6 +59,9 @@ impl Search<'_> {
     }
 
     fn weight_of(&self, at: usize, field: &Field, part: &[u32]) -> u64 {
+        if field.is_byte() {
+            return part.iter().map(|word| 1 + u64::from(*word)).sum();
+        }
         if field.is_short() {
             return part.iter().map(|word| 1 + weight_of_short(*word)).sum();
         }
@@ -146,7 +149,11 @@ impl Search<'_> {
                 }) {}
                 continue;
             }
-            let plainer = if self.takes[at].is_short() { plainer_shorts } else { plainer_singles };
+            let plainer = match &self.takes[at] {
+                field if field.is_short() => plainer_shorts,
+                field if field.is_byte() => plainer_bytes,
+                _ => plainer_singles,
+            };
             for i in 0..self.best[at].len() {
                 while plainer(self.best[at][i]).into_iter().any(|word| {
                     let mut parts = self.best.clone();
@@ -188,6 +195,10 @@ fn weight_of_short(word: u32) -> u64 {
 fn plainer_shorts(word: u32) -> Vec<u32> {
     let sample = word as i16;
     shorts(&[sample.saturating_abs(), sample / 256, sample / 16, sample / 2])
+}
+
+fn plainer_bytes(word: u32) -> Vec<u32> {
+    vec![word >> 4, word >> 1, word.saturating_sub(10), word.saturating_sub(1)]
 }
 
 fn plainer_singles(word: u32) -> Vec<u32> {
@@ -246,6 +257,12 @@ mod tests {
     fn lists_lose_the_samples_that_the_fault_does_not_need() {
         let given = smallest("open_loop_pitch", &mut |given: &[u32]| given[0] >= 100);
         assert_eq!(given, [&[100][..], &[0; 100], &[0, 0]].concat());
+    }
+
+    #[test]
+    fn bytes_stay_bytes() {
+        assert_eq!(smallest("combine_lsp_index", &mut spoils), [101; 3]);
+        assert_eq!(smallest("split_lsp_index", &mut spoils), [101]);
     }
 
     #[test]

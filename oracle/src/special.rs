@@ -8,6 +8,9 @@ use crate::shape::{bits, word, Parts};
 use std::f64::consts::PI;
 use std::sync::OnceLock;
 
+/// Frequencies that are refused: with 5, and with 6.
+const UNFIT: [u32; 5] = [0x7fc0_0000, 0x7f80_0000, 0xff80_0000, 0x4780_0001, 0xc788_b800];
+
 /// Windows whose prediction error all but vanishes: tones, steps, alternation, one sample.
 pub fn lpc_analysis(random: &mut Random, _: u64) -> Parts {
     let scale = 2f32.powi(random.below(200) as i32 - 140);
@@ -123,14 +126,29 @@ pub fn quantise_lsp_freq(random: &mut Random, turn: u64) -> Parts {
     }
 }
 
-/// Sets at the bound and a little beside the resting set.
-pub fn decode_lsp_freq(random: &mut Random, _: u64) -> Parts {
+/// Sets at the bound and a little beside the resting set; indices at their bound, alone and with a set that is refused.
+pub fn decode_lsp_freq(random: &mut Random, turn: u64) -> Parts {
     let shift = *random.pick(&[0.0f32, 8.0, -8.0, 0.5, 16_384.0, -16_384.0]);
     let mut prev = resting().map(|f| f + shift);
     if random.once_in(3) {
         prev = prev.map(|f| f + random.between(-1.0, 1.0) as f32);
     }
-    vec![vec![random.bits()], bits(&prev)]
+    let mut prev = bits(&prev);
+    if turn % 3 == 0 {
+        prev[random.below(10)] = *random.pick(&UNFIT);
+    }
+    vec![if turn % 2 == 0 { index_limit(random) } else { index(random) }, prev]
+}
+
+pub fn split_lsp_index(random: &mut Random, _: u64) -> Parts {
+    vec![index_limit(random)]
+}
+
+/// Bytes that are all the least or the greatest, or but for one.
+pub fn combine_lsp_index(random: &mut Random, _: u64) -> Parts {
+    let mut bands = [*random.pick(&[0, 255]); 3];
+    bands[random.below(3)] = *random.pick(&[0, 1, 127, 128, 254, 255]);
+    vec![bands.to_vec()]
 }
 
 /// Lines that crowd, cross, lie on the ends, stand apart by about the spacing, or have angles all but halfway between two steps.
@@ -329,13 +347,12 @@ pub fn code_frame(random: &mut Random, turn: u64) -> Parts {
     let [set, lines, x_mem, f_mem, weighted, samples, spacing] = &mut parts[..] else {
         panic!("a frame has seven parts")
     };
-    let bad = [0x7fc0_0000, 0x7f80_0000, 0xff80_0000, 0x4780_0001, 0xc788_b800];
     let bound = *random.pick(&[0.0f32, -0.0, 400.0, 31.25]);
     let far = *random.pick(&[f32::NAN, f32::INFINITY, -1.0, 401.0]);
     match turn % 6 {
         0 => spacing[0] = beside(bound, random.next() % 3),
-        1 => (set[random.below(10)], spacing[0]) = (*random.pick(&bad), far.to_bits()),
-        2 => (lines[random.below(10)], spacing[0]) = (*random.pick(&bad), far.to_bits()),
+        1 => (set[random.below(10)], spacing[0]) = (*random.pick(&UNFIT), far.to_bits()),
+        2 => (lines[random.below(10)], spacing[0]) = (*random.pick(&UNFIT), far.to_bits()),
         3 => {
             let scale = *random.pick(&[1e30f32, 1e37, 3e37, 1e-38, 1e-44]);
             for memory in [x_mem, f_mem] {

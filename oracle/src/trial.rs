@@ -60,9 +60,13 @@ impl Judge {
     }
 }
 
-/// The inputs on which a planted fault shows: at least two words are below zero, read as singles, or there is no word.
+/// The inputs on which a planted fault shows: at least two words are below zero, read as singles; of fewer than four words
+/// each is above 100.
 pub fn spoils(given: &[u32]) -> bool {
-    given.is_empty() || given.iter().filter(|word| **word > 0x8000_0000).count() >= 2
+    match given.len() {
+        0..4 => given.iter().all(|word| *word > 100),
+        _ => given.iter().filter(|word| **word > 0x8000_0000).count() >= 2,
+    }
 }
 
 /// The last word of the answer, one bit off.

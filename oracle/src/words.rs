@@ -40,6 +40,11 @@ impl<'a> Reader<'a> {
         self.words(length).iter().map(|word| *word as i16).collect()
     }
 
+    pub fn bytes<const N: usize>(&mut self) -> [u8; N] {
+        let words = self.words(N);
+        std::array::from_fn(|i| words[i] as u8)
+    }
+
     pub fn words(&mut self, count: usize) -> &'a [u32] {
         let (words, rest) = self.rest.split_at(count);
         self.rest = rest;
@@ -63,6 +68,12 @@ impl Words {
 
     pub fn numbers(mut self, ns: &[u32]) -> Words {
         self.0.extend(ns);
+        self
+    }
+
+    /// Bytes, one a word.
+    pub fn bytes(mut self, bytes: &[u8]) -> Words {
+        self.0.extend(bytes.iter().map(|byte| u32::from(*byte)));
         self
     }
 

@@ -15,6 +15,7 @@ ghost use Rattle.lsp.specs.Pairs.{lpcToLsp};
 ghost use Rattle.spec_tables.specs.Codebook.{lspRows};
 ghost use Rattle.spec_lsp.specs.Quantise.{quantiseLspFreq};
 ghost use Rattle.spec_lsp.specs.Decode.{decodeLspFreq};
+ghost use Rattle.lsp_index.specs.Index.{split, combine};
 ghost use Rattle.combined.specs.Cascade.{settings};
 ghost use Rattle.combined.specs.Run.{runCombined};
 ghost use Rattle.impulse.specs.Impulse.{impulseResponse};
@@ -289,6 +290,31 @@ pub extern "C" fn g7231_bare_decode_lsp_freq(
         *set = lines;
     }
     status
+}
+
+// Neither has a bare form: bytes and words are the same in every mode.
+#[no_mangle]
+pub extern "C" fn g7231_split_lsp_index(index: u32, bands: &mut [u8; 3]) -> u32
+    ensures status { λ r. ⌜ r ≡ split index .status ⌝ }
+    ensures rows { λ r. ⌜ now (bands .exit) ≡ lent r (now (bands .entry)) (split index .bands) ⌝ }
+{
+    let answer = lsp_index::split_lsp_index(index);
+    let status = answer.status;
+    if status == 0 {
+        let three = answer.bands;
+        *bands = three;
+    }
+    status
+}
+
+#[no_mangle]
+pub extern "C" fn g7231_combine_lsp_index(bands: &[u8; 3], index: &mut u32) -> u32
+    ensures status { λ r. ⌜ r ≡ 0 ⌝ }
+    ensures index { λ r. ⌜ now (index .exit) ≡ combine (now (bands .entry)) ⌝ }
+{
+    let three = *bands;
+    *index = lsp_index::combine_lsp_index(three);
+    0
 }
 
 #[no_mangle]

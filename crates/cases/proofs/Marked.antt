@@ -16,6 +16,7 @@ use Rattle.spec_tables.specs.Rows.{rowFrom}
 use Rattle.spec_tables.specs.Window.{windowRows, hammingWindow}
 use Rattle.row_search.specs.Error.{squared, term, rowError}
 use Rattle.row_search.specs.Search.{better, among}
+use Rattle.lsp_index.specs.Index.{split}
 use Rattle.spec_lsp.specs.Decode.{predicted, rebuilt, rowNumbers, decoded, decodeLspFreq}
 use Rattle.spec_lsp.specs.Quantise.{smaller, larger, nearest, weightOf, weights, target, chosen, indexOf, quantiseBy, quantiseLspFreq}
 use Rattle.lsp_filter.specs.Interpolate.{previousWeight, currentWeight, weighed, interpolateLsp}
@@ -31,7 +32,9 @@ unfolding flatten neg round add sub mul ofInt lt single table all lspBand0 lspBa
 decodes-66051 = refl
 
 quantises-66051 : Holds (quantises set66051 dc 66051)
-unfolding flatten neg round add sub mul div ofInt lt eq le single double table times all rounded quarterRows quarter entry folded blend scaled cosine held above step lspBand0 lspBand1 lspBand2 lspRows windowRows hammingWindow squared term rowError better among predicted rebuilt rowFrom rowNumbers decoded decodeLspFreq smaller larger nearest weightOf weights target chosen indexOf quantiseBy quantiseLspFreq previousWeight currentWeight weighed interpolateLsp coefficient quadratic side plusFactor minusFactor halfSum lspToLpc gate atMostOne passes windowed lagged correlation lagWeight corrected sums trivial setOf lpcAnalysis
+unfolding flatten neg round add sub mul div ofInt lt eq le single double table times all rounded
+    lspBand0 lspBand1 lspBand2 lspRows rowFrom squared term rowError better among
+    predicted rebuilt rowNumbers decoded smaller larger nearest weightOf weights target chosen indexOf quantiseBy quantiseLspFreq
 quantises-66051 = refl
 
 decodes-0 : Holds (decodes 0 dc+8 dc+3)
@@ -40,6 +43,9 @@ unfolding flatten neg round add sub mul ofInt lt single table all lspBand0 lspBa
 decodes-0 = refl
 
 pub marked-hold : All marked
-unfolding flatten neg round add sub mul div ofInt lt eq le single double table times all rounded quarterRows quarter entry folded blend scaled cosine held above step lspBand0 lspBand1 lspBand2 lspRows windowRows hammingWindow squared term rowError better among predicted rebuilt rowFrom rowNumbers decoded decodeLspFreq smaller larger nearest weightOf weights target chosen indexOf quantiseBy quantiseLspFreq previousWeight currentWeight weighed interpolateLsp coefficient quadratic side plusFactor minusFactor halfSum lspToLpc gate atMostOne passes windowed lagged correlation lagWeight corrected sums trivial setOf lpcAnalysis
+unfolding flatten neg round add sub mul div ofInt lt eq le single double table times all rounded split
+    quarterRows quarter entry folded blend scaled cosine held above step windowRows hammingWindow
+    previousWeight currentWeight weighed interpolateLsp coefficient quadratic side plusFactor minusFactor halfSum lspToLpc
+    gate atMostOne passes windowed lagged correlation lagWeight corrected sums trivial setOf lpcAnalysis
 marked-hold =
     (refl, (refl, (decodes-66051, (quantises-66051, (decodes-0, (refl, (refl, (refl, (refl, (refl, (refl, (refl, (refl, (refl, (refl, (refl, (refl, (refl, (refl, ((refl, refl), tt))))))))))))))))))))

@@ -1,5 +1,5 @@
 -- The cases that document 01 marks for proof (M), as one table of the definitions.
--- Added by design, each about the section of its definition; document 01, E1 to E10 and F5. Assumes nothing.
+-- Added by design, each about the section of its definition; document 01, E1 to E10 and F5; document 02, E4.4, of the second. Assumes nothing.
 use mathlib.Core.Path.{_≡_}
 use mathlib.Core.Bool.{Bool, true, false}
 use mathlib.Core.List.{List, [], _∷_, map}
@@ -15,7 +15,7 @@ use Rattle.cosine.specs.Step.{held, step}
 use Rattle.spec_tables.specs.Codebook.{lspRows}
 use Rattle.spec_tables.specs.Tables.{dcFreq}
 use Rattle.row_search.specs.Error.{number}
-use Rattle.spec_lsp.specs.Index.{split}
+use Rattle.lsp_index.specs.Index.{split}
 use Rattle.spec_lsp.specs.Decode.{decodeLspFreq}
 use Rattle.spec_lsp.specs.Quantise.{quantiseLspFreq}
 use Rattle.lsp_filter.specs.Interpolate.{interpolateLsp}
@@ -38,8 +38,8 @@ abbrev pub dc+3 : List Float
 dc+3 = whole (3134 ∷ 4724 ∷ 7693 ∷ 10809 ∷ 13875 ∷ 16498 ∷ 19755 ∷ 22263 ∷ 25487 ∷ 27721 ∷ [])
 
 pub data Case : Type 0 where
-  -- an index splits to three rows
-  splits : ℕ → List ℕ → Case
+  -- a word splits with a status, to three rows
+  splits : ℕ → ℕ → List ℕ → Case
   -- an index and a previous set decode to a set
   decodes : ℕ → List Float → List Float → Case
   -- a set and a previous set quantise to an index
@@ -57,7 +57,7 @@ pub data Case : Type 0 where
   predicts : List Float → List Float → Float → Case
 
 abbrev pub Holds : Case → Type 0
-Holds (splits index bands) = split index ≡ bands
+Holds (splits index status bands) = split index ≡ record { status = status; bands = bands }
 Holds (decodes index prev set) = decodeLspFreq lspRows index prev ≡ record { status = 0; lines = set }
 Holds (quantises p prev index) = quantiseLspFreq lspRows p prev .index ≡ index
 Holds (weighs choice a b c) = interpolateLsp choice (replicate 10 (single a 1)) (replicate 10 (single b 1)) ≡ record { status = 0; lines = replicate 10 (single c 1) }
@@ -73,8 +73,8 @@ set66051 = whole (2861 ∷ 3349 ∷ 6658 ∷ 8154 ∷ 12594 ∷ 15127 ∷ 20404 
 
 abbrev pub marked : List Case
 marked =
-    splits 66051 (1 ∷ 2 ∷ 3 ∷ [])
-    ∷ splits 4278256131 (1 ∷ 2 ∷ 3 ∷ [])
+    splits 66051 0 (1 ∷ 2 ∷ 3 ∷ [])
+    ∷ splits 4278256131 9 (0 ∷ 0 ∷ 0 ∷ [])
     ∷ decodes 66051 dc set66051
     ∷ quantises set66051 dc 66051
     ∷ decodes 0 dc+8 dc+3

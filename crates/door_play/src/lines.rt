@@ -58,12 +58,33 @@ pub fn decode() -> bool {
     let bad = buffers::infinite();
     let mut set = buffers::marked();
     let refused = c_api::g7231_bare_decode_lsp_freq(66051, &bad, &mut set);
+    let long = c_api::g7231_bare_decode_lsp_freq(16777216, &bad, &mut set);
     let kept = buffers::ten(set, buffers::marked());
     let done = c_api::g7231_bare_decode_lsp_freq(66051, &prev, &mut set);
     let want = spec_lsp::decode::decode_lsp_freq(66051, prev);
     let lines = want.lines;
     let same = buffers::ten(set, lines);
-    (refused == 5) & kept & (done == 0) & same
+    (refused == 5) & (long == 9) & kept & (done == 0) & same
+}
+
+fn three(bands: [u8; 3], a: u8, b: u8, c: u8) -> bool {
+    (bands[0] == a) & (bands[1] == b) & (bands[2] == c)
+}
+
+pub fn split() -> bool {
+    let mut bands = [77u8; 3];
+    let refused = c_api::g7231_split_lsp_index(16777216, &mut bands);
+    let kept = three(bands, 77, 77, 77);
+    let done = c_api::g7231_split_lsp_index(66051, &mut bands);
+    let same = three(bands, 1, 2, 3);
+    (refused == 9) & kept & (done == 0) & same
+}
+
+pub fn combine() -> bool {
+    let bands = [1u8, 2, 3];
+    let mut index = 77;
+    let done = c_api::g7231_combine_lsp_index(&bands, &mut index);
+    (done == 0) & (index == 66051)
 }
 
 pub fn stability() -> bool {

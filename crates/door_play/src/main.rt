@@ -38,6 +38,8 @@ fn line_doors(tally: Tally) -> Tally {
     let t = door(t, b"lsp_freq_to_cosines", lines::freq_to_cosines());
     let t = door(t, b"quantise_lsp_freq", lines::quantise());
     let t = door(t, b"decode_lsp_freq", lines::decode());
+    let t = door(t, b"split_lsp_index", lines::split());
+    let t = door(t, b"combine_lsp_index", lines::combine());
     let t = door(t, b"enforce_lsp_stability", lines::stability());
     let t = door(t, b"interpolate_lsp", lines::interpolate());
     let t = door(t, b"lsp_to_lpc", lines::to_lpc());

@@ -28,6 +28,7 @@ use Rattle.frame_line.proofs.Accepted.{Accepted, accepted, lines-given}
 use Rattle.frame_line.proofs.Chain.{lineStage}
 use Rattle.frame_line.proofs.Counted.{after, sent-done, each-frame}
 use Rattle.frame_line.proofs.Cosines.{TenCosines, Usable, converted-ten, Spaced, spaced, stabilised-done, stabilised-ten, filters-done}
+use Rattle.frame_line.proofs.Words.{frame-24}
 use Rattle.frame_line.proofs.Reached.{turn, Reached, reached-start, reached-turn, reached-coder, reached-decoder}
 
 -- the two sets
@@ -78,7 +79,8 @@ module _ (rows : List ℤ) (R : T (rowsPass rows)) where
     received-done : received .status ≡ 0
     received-done =
         let u = reached-decoder rows R (setsOf ends) (k .sets) in
-        ap (λ (l : Lines). l .status) (decode-done rows (sent rows ends t .index) (ends .decoder .set) (u .finite-set) (u .bounded))
+        let short = frame-24 rows (ends .coder) (t .samples) (t .spacing) (sent-done rows ends t h) in
+        ap (λ (l : Lines). l .status) (decode-done rows (sent rows ends t .index) (ends .decoder .set) short (u .finite-set) (u .bounded))
 
     -- the sets after it, brought or not, and the line's turn of it
     abbrev setsAfter : Bool → Ends

@@ -5,6 +5,7 @@ pub mod Seven
 mod Accepted
 mod Counted
 mod Finite
+pub mod Words
 pub mod Whole
 mod Cosines
 mod Reached

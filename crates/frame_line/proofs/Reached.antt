@@ -54,9 +54,9 @@ module _ (rows : List ℤ) where
       (all finite set ≡ true) × (anyExceeds (single 65536 1) set ≡ false)
   unfolding decodeLspFreq got-status
   decoded-usable index set h =
-      let n = not-refused got-status (first (decodeRefusals set)) refusedLines (record { status = 0; lines = decoded rows index set }) (λ k. refl) h in
-      let z = clear (decodeRefusals set) tt refl (n .0) in
-      (not-false _ (z .0), z .1 .0)
+      let n = not-refused got-status (first (decodeRefusals index set)) refusedLines (record { status = 0; lines = decoded rows index set }) (λ k. refl) h in
+      let z = clear (decodeRefusals index set) tt refl (n .0) in
+      (not-false _ (z .1 .0), z .1 .1 .0)
 
   -- ---- a run of turns
   pub record Reached (ends : Ends) : Type 0 where

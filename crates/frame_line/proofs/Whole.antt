@@ -13,6 +13,7 @@ use lib.IntN.{ℤ}
 use lib.Ieee.{Float}
 use Rattle.spec_lsp.specs.Decode.{decodeLspFreq}
 use Rattle.spec_lsp.specs.Quantise.{indexOf, quantiseLspFreq}
+use Rattle.spec_lsp.proofs.Choice.{index-24}
 use Rattle.spec_lsp.proofs.Refusals.{quantised-decoded}
 use Rattle.spectrum.specs.Lines.{given, lines}
 use Rattle.frame.specs.declared.Coder.{Coder}
@@ -47,7 +48,8 @@ line-decoded : (rows : List ℤ) (a set : List Float) → lines rows a set .stat
 unfolding quantiseLspFreq
 line-decoded rows a set h =
     let is = lines-given rows a set h in
-    rw is (quantised-decoded rows (indexOf rows) (given a set .lines) set (rw is at h))
+    let p = given a set .lines in
+    rw is (quantised-decoded rows (indexOf rows) p set (index-24 rows p set) (rw is at h))
 
 module _ (rows : List ℤ) where
   same-frame : (coder : Coder) (decoder : Decoder) (samples : List ℤ) (hz : Float) → Alike coder decoder →

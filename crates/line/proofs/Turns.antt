@@ -1,6 +1,6 @@
--- A turn of the line between a coder with any rows and any choice of an index, and the decoder with the same rows: both ends go on holding
--- sets, and no set is refused. Then runs of turns: equal ends stay equal while no index is lost, and other ends come closer with each
--- arrival. Assumes nothing.
+-- A turn of the line between a coder with any rows and any choice of an index of 24 bits, and the decoder with the same rows: both ends go
+-- on holding sets, and no set and no index is refused. Then runs of turns: equal ends stay equal while no index is lost, and other ends
+-- come closer with each arrival. Assumes nothing.
 use mathlib.Core.Path.{_≡_, refl, sym, ap, _∙_, subst}
 use mathlib.Core.Bool.{Bool, true, false, not, _&&_, cond}
 use mathlib.Core.List.{List, [], _∷_}
@@ -26,14 +26,16 @@ pub record Both (ends : Ends) : Type 0 where
   pub coder : Held (ends .coder)
   pub decoder : Held (ends .decoder)
 
-module _ (rows : List ℤ) (R : T (rowsPass rows)) (choice : List Float → List Float → ℕ) where
+module _ (rows : List ℤ) (R : T (rowsPass rows)) (choice : List Float → List Float → ℕ)
+    (C : (p prev : List Float) → choice p prev ≤ 16777215) where
   -- ---- the decoder takes what arrives
-  pub takes : (index : ℕ) (set : List Float) → Held set →
+  pub takes : (index : ℕ) (set : List Float) → index ≤ 16777215 → Held set →
       decodeLspFreq rows index set ≡ record { status = 0; lines = decoded rows index set }
-  takes index set p = decode-done rows index set (held-finite set p) (held-bounded set p)
+  takes index set l p = decode-done rows index set l (held-finite set p) (held-bounded set p)
 
-  receives : (index : ℕ) (set : List Float) → Held set → received (decodeLspFreq rows) index set ≡ decoded rows index set
-  receives index set p = rw (takes index set p)
+  receives : (index : ℕ) (set : List Float) → index ≤ 16777215 → Held set →
+      received (decodeLspFreq rows) index set ≡ decoded rows index set
+  receives index set l p = rw (takes index set l p)
 
   -- ---- one turn
   abbrev index : Ends → Turn → ℕ
@@ -54,7 +56,7 @@ module _ (rows : List ℤ) (R : T (rowsPass rows)) (choice : List Float → List
   unfolding step
   sent ends t b h =
       let q = quantised-set rows choice (t .given) (ends .coder) (eqb→eq _ 0 (rw h tt)) in
-      rw (q, receives (index ends t) (ends .decoder) (b .decoder))
+      rw (q, receives (index ends t) (ends .decoder) (C (t .given) (ends .coder)) (b .decoder))
 
   not-sent : (ends : Ends) (t : Turn) → sends (quantiseBy rows choice) ends t ≡ false → next ends t ≡ ends
   unfolding step

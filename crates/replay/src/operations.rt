@@ -49,6 +49,7 @@ pub fn length_of(words: &[u32; 1024]) -> usize {
         15 => 95,
         16 => 187,
         17 => with_samples(words[186], 429),
+        18 | 19 => 6,
         _ => 0,
     }
 }
@@ -74,6 +75,8 @@ pub fn agrees(words: &[u32; 1024]) -> bool {
         15 => combined_impulse_response(words),
         16 => new_coder(words),
         17 => code_frame(words),
+        18 => split_lsp_index(words),
+        19 => combine_lsp_index(words),
         _ => false,
     }
 }
@@ -141,6 +144,25 @@ fn decode_lsp_freq(words: &[u32; 1024]) -> bool {
     let set = answer.lines;
     let same = matches(&set, words, 13);
     (answer.status == words[12]) & same
+}
+
+fn split_lsp_index(words: &[u32; 1024]) -> bool {
+    let answer = lsp_index::split_lsp_index(words[1]);
+    let bands = answer.bands;
+    let same = ((bands[0] as u32) == words[3])
+        & ((bands[1] as u32) == words[4])
+        & ((bands[2] as u32) == words[5]);
+    (answer.status == words[2]) & same
+}
+
+// It refuses nothing.
+fn combine_lsp_index(words: &[u32; 1024]) -> bool {
+    let bands = [
+        (words[1] % 256) as u8,
+        (words[2] % 256) as u8,
+        (words[3] % 256) as u8,
+    ];
+    (words[4] == 0) & (lsp_index::combine_lsp_index(bands) == words[5])
 }
 
 fn enforce_lsp_stability(words: &[u32; 1024]) -> bool {

@@ -1,4 +1,3 @@
-pub mod Bytes
 pub mod Numbers
 pub mod Refusals
 pub mod Choice

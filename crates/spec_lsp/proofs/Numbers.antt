@@ -10,7 +10,7 @@ use Rattle.spec_tables.specs.declared.LspBand.{LspBand}
 use Rattle.spec_tables.specs.declared.LspBand.the-variants.{Band0, Band1, Band2}
 use Rattle.spec_tables.specs.Band.{placeOf, allBands}
 use Rattle.spec_tables.specs.Rows.{row}
-use Rattle.spec_lsp.specs.Index.{split}
+use Rattle.lsp_index.specs.Index.{bytes}
 use Rattle.spec_lsp.specs.Decode.{rowNumbers}
 
 -- a list of four by its places
@@ -36,14 +36,14 @@ parts a b c h k l p₀ p₁ p₂ q₀ q₁ q₂ r₀ r₁ r₂ r₃ =
 
 -- the three rows as the code has copied them out
 pub joined-rows : (rows : List ℤ) (index : ℕ) (bands : List LspBand) (places : List ℕ) (a b c r : List ℤ) →
-    r ≡ take 3 a ++ take 3 b ++ take 4 c → bands ≡ allBands → places ≡ split index →
+    r ≡ take 3 a ++ take 3 b ++ take 4 c → bands ≡ allBands → places ≡ bytes index →
     take (placeOf (getD bands 0 Band0) .length) a ≡ row rows (getD bands 0 Band0) (getD places 0 0) →
     take (placeOf (getD bands 1 Band0) .length) b ≡ row rows (getD bands 1 Band0) (getD places 1 0) →
     take (placeOf (getD bands 2 Band0) .length) c ≡ row rows (getD bands 2 Band0) (getD places 2 0) →
     r ≡ rowNumbers rows index
 unfolding rowNumbers
 joined-rows rows index bands places a b c r h f g p q s =
-    let x : take 3 a ≡ row rows Band0 (getD (split index) 0 0) = rw (f, g) at p in
-    let y : take 3 b ≡ row rows Band1 (getD (split index) 1 0) = rw (f, g) at q in
-    let z : take 4 c ≡ row rows Band2 (getD (split index) 2 0) = rw (f, g) at s in
+    let x : take 3 a ≡ row rows Band0 (getD (bytes index) 0 0) = rw (f, g) at p in
+    let y : take 3 b ≡ row rows Band1 (getD (bytes index) 1 0) = rw (f, g) at q in
+    let z : take 4 c ≡ row rows Band2 (getD (bytes index) 2 0) = rw (f, g) at s in
     h ∙ rw (x, y, z)

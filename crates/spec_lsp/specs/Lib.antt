@@ -1,5 +1,4 @@
 -- The line spectra of the coder in the tables' units: 32,768 make half a circle.
-pub mod Index
 pub mod Resting
 pub mod Decode
 pub mod Quantise

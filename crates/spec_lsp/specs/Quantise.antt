@@ -18,7 +18,7 @@ use Rattle.spec_tables.specs.Band.{placeOf, allBands}
 use Rattle.spec_tables.specs.declared.LspBand.{LspBand}
 use Rattle.row_search.specs.Error.{number, rowError}
 use Rattle.row_search.specs.Search.{best}
-use Rattle.spec_lsp.specs.Index.{combine}
+use Rattle.lsp_index.specs.Index.{combine}
 use Rattle.spec_lsp.specs.Decode.{predicted, decoded}
 use Rattle.spec_lsp.specs.declared.quantise.Quantised.{Quantised}
 

@@ -3,8 +3,8 @@ ghost use mathlib.Core.Path.{_≡_};
 ghost use mathlib.Core.List.{_++_};
 ghost use lib.ListN.{take};
 ghost use Rattle.spec_tables.specs.Codebook.{lspRows};
-ghost use Rattle.spec_lsp.specs.Decode.{predicted, rebuilt, rowNumbers, decoded, decodeLspFreq};
-use crate::index;
+ghost use Rattle.float.specs.Refusal.{first};
+ghost use Rattle.spec_lsp.specs.Decode.{predicted, rebuilt, rowNumbers, decoded, decodeRefusals, decodeLspFreq};
 use float::Lines;
 use spec_tables::LspBand;
 
@@ -34,7 +34,7 @@ fn row_numbers(rows: &[i16; 2560], index: u32) -> [i16; 10]
     ensures { λ r. ⌜ r ≡ rowNumbers (now (rows .entry)) index ⌝ }
 {
     let bands = LspBand::in_order();
-    let places = index::split_lsp_index(index);
+    let places = lsp_index::index_bytes(index);
     let a = spec_tables::lsp_codebook_entry(rows, bands[0], places[0]);
     let b = spec_tables::lsp_codebook_entry(rows, bands[1], places[1]);
     let c = spec_tables::lsp_codebook_entry(rows, bands[2], places[2]);
@@ -54,11 +54,23 @@ pub fn decode_set(rows: &[i16; 2560], index: u32, prev: [f32; 10]) -> [f32; 10]
     set
 }
 
+// The first refusal due: what the index is refused with; then 5 and 6 on the previous set.
+fn check_index_and_set(index: u32, prev: [f32; 10]) -> u32
+    ensures { λ r. ⌜ r ≡ first (decodeRefusals index prev) ⌝ }
+{
+    let split = lsp_index::split_lsp_index(index);
+    let status = split.status;
+    if status != 0 {
+        return status; // before the previous set is looked at
+    }
+    float::check_bounded(&prev, 65536.0)
+}
+
 // The decoder over rows that the caller lends.
 pub fn decode_in(rows: &[i16; 2560], index: u32, prev: [f32; 10]) -> Lines
     ensures { λ r. ⌜ r ≡ decodeLspFreq (now (rows .entry)) index prev ⌝ }
 {
-    let status = float::check_bounded(&prev, 65536.0);
+    let status = check_index_and_set(index, prev);
     if status != 0 {
         return float::refused_lines(status);
     }
@@ -69,6 +81,11 @@ pub fn decode_in(rows: &[i16; 2560], index: u32, prev: [f32; 10]) -> Lines
 pub fn decode_lsp_freq(index: u32, prev: [f32; 10]) -> Lines
     ensures { λ r. ⌜ r ≡ decodeLspFreq lspRows index prev ⌝ }
 {
+    let status = check_index_and_set(index, prev);
+    if status != 0 {
+        return float::refused_lines(status); // before the rows are copied
+    }
     let t = spec_tables::lsp_rows();
-    decode_in(&t, index, prev)
+    let lines = decode_set(&t, index, prev);
+    Lines { status: 0, lines }
 }

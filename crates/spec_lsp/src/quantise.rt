@@ -6,7 +6,6 @@ ghost use Rattle.spec_tables.specs.Codebook.{lspRows};
 ghost use Rattle.spec_lsp.specs.Quantise.{smaller, larger, weightOf, nearest, weights, target, chosen, indexOf};
 ghost use Rattle.spec_lsp.specs.Quantise.{refusedIndex, quantiseRefusals, quantiseLspFreq};
 use crate::decode;
-use crate::index;
 use spec_tables::LspBand;
 
 pub struct Quantised {
@@ -100,7 +99,7 @@ fn best_index(rows: &[i16; 2560], p: [f32; 10], prev: [f32; 10]) -> u32
     let a = choose(rows, &t, &w, bands[0]);
     let b = choose(rows, &t, &w, bands[1]);
     let c = choose(rows, &t, &w, bands[2]);
-    index::combine_lsp_index([a, b, c])
+    lsp_index::combine_lsp_index([a, b, c])
 }
 
 // The first refusal due: 5 in either set; then 6 above 65,536 in magnitude in either.

@@ -1,10 +1,11 @@
 // The worked cases of document 01 that are run, E11 to E14, with E11's step as request E1 has it, the limits of narrowing and of
-// the cosine rule, whole frames as request E2 has them, and the combined filter's memories, which request E3 leaves as they
-// were: one line each, and how many passed.
+// the cosine rule, whole frames as request E2 has them, the combined filter's memories, which request E3 leaves as they were,
+// and indices of 24 bits and longer words, which request E4 refuses: one line each, and how many passed.
 mod cosines;
 mod filters;
 mod frames;
 mod frequencies;
+mod indices;
 mod lists;
 mod narrowing;
 mod stages;
@@ -286,6 +287,54 @@ fn filter_cases(tally: Tally) -> Tally {
     )
 }
 
+fn index_cases(tally: Tally) -> Tally {
+    let t = case(
+        tally,
+        b"66,051 splits to 1, 2 and 3",
+        indices::splits(66051, 1, 2, 3),
+    );
+    let t = case(
+        t,
+        b"4,278,256,131 is refused with 9, and its rows are zeros",
+        indices::split_refused(4278256131),
+    );
+    let t = case(
+        t,
+        b"16,777,215 splits to 255, 255 and 255",
+        indices::splits(16777215, 255, 255, 255),
+    );
+    let t = case(
+        t,
+        b"16,777,216 is refused with 9, and its rows are zeros",
+        indices::split_refused(16777216),
+    );
+    let t = case(
+        t,
+        b"index 16,777,215 decodes to 4,824, 9,514, 13,702, 14,841, 19,206, 21,407, 22,675, 25,777, 28,051, 29,036",
+        indices::last_index(),
+    );
+    let t = case(
+        t,
+        b"50,397,699, which is 66,051 with its length byte on top, is refused with 9 and ten zeros",
+        indices::decode_refused(50397699),
+    );
+    let t = case(
+        t,
+        b"16,777,216 is refused with 9 before a previous set with a NaN, or of 70,000s",
+        indices::after_unfit_sets(16777216, 9, 9),
+    );
+    let t = case(
+        t,
+        b"after 16,777,215 such a set is refused with 5, or with 6",
+        indices::after_unfit_sets(16777215, 5, 6),
+    );
+    case(
+        t,
+        b"over lent rows 16,777,216 is refused with 9, and 66,051 decodes",
+        indices::over_lent_rows(),
+    )
+}
+
 fn main() {
     let first = frequency_cases(Tally {
         passed: 0,
@@ -296,7 +345,8 @@ fn main() {
     let fourth = step_cases(third);
     let fifth = cosine_cases(fourth);
     let sixth = frame_cases(fifth);
-    let tally = filter_cases(sixth);
+    let seventh = filter_cases(sixth);
+    let tally = index_cases(seventh);
     io::print_decimal(STDOUT_FILENO, tally.passed);
     io::write_all(STDOUT_FILENO, b" passed, ");
     io::print_decimal(STDOUT_FILENO, tally.failed);

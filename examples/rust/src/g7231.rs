@@ -13,6 +13,7 @@ pub mod doors {
 
 use doors::*;
 
+pub type Bands = [u8; G7231_BANDS];
 type Lines = [f32; G7231_ORDER];
 type Filter = [f32; G7231_FILTER];
 type Subframe = [f32; G7231_SUBFRAME];
@@ -114,6 +115,20 @@ pub fn decode_lsp_freq(index: u32, prev: &Lines) -> Result<Lines, Refusal> {
     let mut set = [0.0; G7231_ORDER];
     let status = unsafe { g7231_decode_lsp_freq(index, prev, &mut set) };
     answer(status, set)
+}
+
+/// The row of each band that an index of 24 bits names; a longer word is refused.
+pub fn split_lsp_index(index: u32) -> Result<Bands, Refusal> {
+    let mut bands = [0; G7231_BANDS];
+    let status = unsafe { g7231_split_lsp_index(index, &mut bands) };
+    answer(status, bands)
+}
+
+/// The index of three rows.
+pub fn combine_lsp_index(bands: &Bands) -> u32 {
+    let mut index = 0;
+    unsafe { g7231_combine_lsp_index(bands, &mut index) };
+    index
 }
 
 /// Lines at least a spacing apart, and whether a pass met no pair too close.

@@ -10,7 +10,7 @@ use g7231::doors::{
     G7231_FRAME as FRAME, G7231_NO_LINE_SET, G7231_PAST as PAST, G7231_SPAN as SPAN, G7231_SUBFRAME as SUBFRAME,
     G7231_WINDOW as WINDOW,
 };
-use g7231::{Coder, CombinedMem, Frame, Refusal, Shaping, Taps, WeightingMem};
+use g7231::{Bands, Coder, CombinedMem, Frame, Refusal, Shaping, Taps, WeightingMem};
 use hash::Hash;
 
 type Lines = [f32; 10];
@@ -136,9 +136,9 @@ struct Decoder {
 }
 
 impl Decoder {
-    /// The same set, lines and filters from the index alone.
-    fn decode(&mut self, index: u32, answers: &mut Hash) -> Result<Filters, Refusal> {
-        self.set = g7231::decode_lsp_freq(index, &self.set)?;
+    /// The same set, lines and filters from the index alone, of which three bytes were sent.
+    fn decode(&mut self, sent: &Bands, answers: &mut Hash) -> Result<Filters, Refusal> {
+        self.set = g7231::decode_lsp_freq(g7231::combine_lsp_index(sent), &self.set)?;
         let last = self.lines;
         self.lines = settle(&self.set, answers)?;
         filters(&last, &self.lines, answers)
@@ -203,7 +203,8 @@ fn run(name: &str) -> Result<(), String> {
         }
         combine(&mut combined, &x, &frame, &taps, &mut answers).map_err(refused)?;
 
-        let a = decoder.decode(frame.index, &mut answers).map_err(refused)?;
+        let sent = g7231::split_lsp_index(frame.index).map_err(refused)?;
+        let a = decoder.decode(&sent, &mut answers).map_err(refused)?;
         same(&decoder.set, &caller.set, k, "sets")?;
         same(&decoder.lines, &caller.lines, k, "lines")?;
         same(a.as_flattened(), frame.a.as_flattened(), k, "filters")?;

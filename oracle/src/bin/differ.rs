@@ -29,7 +29,8 @@ differ: call the door of every function that the Rust has and compare its answer
   --list         print the names of the functions, one a line
   --progress     show progress on standard error even where that is no terminal
   --plant        a check of differ itself: before it is compared, the last word of each answer that is no refusal is
-                 altered by one bit where two words of the input are below zero, read as singles, or there is no word
+                 altered by one bit where two words of the input are below zero, read as singles; of an input of fewer
+                 than four words, where each is above 100
   --help         this text
 
 The limits come first, then random bits, speech-like values and damaged copies. Results are compared bit for bit with

@@ -7,7 +7,7 @@ use oracle::random::Random;
 use std::io::Write;
 
 const HELP: &str = "\
-store: write the Rust's answers for the operations of document 01 and of request E2, kept as crates/replay/stdin
+store: write the Rust's answers for the operations of document 01 and of requests E2 and E4, kept as crates/replay/stdin
 
   --seed S       the seed of the inputs (1)
   --only NAME    one operation alone
@@ -16,15 +16,16 @@ store: write the Rust's answers for the operations of document 01 and of request
 A record is a line of words: the operation's number, its input, its status, its results. A word is 8 hexadecimal
 digits and a space, or a line feed after the last of a record: word i of the file starts at byte 9 x i. A single is
 its bits; a double, a length, place, half or choice is two words, high then low; a list of samples is its length in
-one word and then its singles, or the 16 bits of each sample in a word. A NaN among the results is 7fc00000. Refused
+one word and then its singles, or the 16 bits of each sample in a word; a byte is one word. A NaN among the results is 7fc00000. Refused
 results are zeros, memories as given. Half of an operation's records go through the limits; the inputs of oracle/aimed.txt
-come last, in its order. The operations of document 01 come first with theirs, so that their lines keep their numbers. The
-Rust's calls of cos, acos and log10 are replaced by document 01's rules.
+come last, in its order. The operations of document 01 come first with theirs, and those of a request after those of the
+requests before it, so that their lines keep their numbers. The Rust's calls of cos, acos and log10 are replaced by document
+01's rules.
 Exit status: 0 done; 1 the Rust is not at hand; 2 bad usage.
 ";
 
-/// How many operations are document 01's.
-const FIRST: u32 = 15;
+/// The last operation of document 01, of request E2 and of request E4.
+const LAST: [u32; 3] = [15, 17, 19];
 
 /// Inputs that are aimed at one fault each.
 const AIMED: &str = include_str!("../../aimed.txt");
@@ -48,9 +49,11 @@ fn main() {
         words.extend(operation.plain(&answer));
         text += &(hex(&words) + "\n");
     };
-    let (first, later): (Vec<&Operation>, Vec<_>) = chosen.into_iter().partition(|one| one.number <= FIRST);
-    for some in [first, later] {
-        for operation in &some {
+    let mut rest = &chosen[..];
+    for last in LAST {
+        let (some, later) = rest.split_at(rest.partition_point(|one| one.number <= last));
+        rest = later;
+        for operation in some {
             for turn in turns(operation) {
                 let mut random = Random::new(seed, operation.number, turn);
                 store(operation, operation.source.draw(&mut random, turn));
@@ -62,6 +65,7 @@ fn main() {
             }
         }
     }
+    assert!(rest.is_empty(), "LAST has no place for the operations from {} on", rest[0].name);
     if let Err(why) = std::io::stdout().write_all(text.as_bytes()) {
         fail(&format!("standard output: {why}"));
     }
@@ -73,8 +77,9 @@ fn aimed() -> impl Iterator<Item = (&'static Operation, Vec<u32>)> {
     lines.map(|line| parse(line).unwrap_or_else(|why| fail(&format!("oracle/aimed.txt: {why}: {line}"))))
 }
 
-/// Half from the limits, evenly over all of them, and half from what follows.
+/// Half from the limits, where there are any, evenly over all of them, and half from what follows.
 fn turns(operation: &Operation) -> impl Iterator<Item = u64> {
-    let (half, limits) = (operation.stored / 2, operation.source.limit_turns());
+    let limits = operation.source.limit_turns();
+    let half = if limits > 0 { operation.stored / 2 } else { 0 };
     (0..half).map(move |i| i * limits / half).chain((0..operation.stored - half).map(move |i| limits + i))
 }

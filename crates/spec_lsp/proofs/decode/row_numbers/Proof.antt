@@ -10,7 +10,7 @@ row-numbers-spec =
     (tie.spec
     -- in-order-requires
     (λ c κs. search needs)
-    -- split-lsp-index-requires
+    -- index-bytes-requires
     (λ c κs. search needs)
     -- array-copy-out-lsp-codebook-entry
     (λ c. search needs)

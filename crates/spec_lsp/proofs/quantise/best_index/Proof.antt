@@ -9,7 +9,7 @@ use lib.Ieee.{Float}
 use Rattle.spec_tables.specs.Band.{allBands}
 use Rattle.spec_tables.specs.declared.LspBand.{LspBand}
 use Rattle.spec_tables.specs.declared.LspBand.the-variants.{Band0}
-use Rattle.spec_lsp.specs.Index.{combine}
+use Rattle.lsp_index.specs.Index.{combine}
 use Rattle.spec_lsp.specs.Quantise.{target, weights, chosen, indexOf}
 use Rattle.spec_lsp.proofs.quantise.best_index.Statement.{statement}
 use Rattle.spec_lsp.proofs.quantise.best_index.Tie as tie
