@@ -34,6 +34,10 @@ enum role {
     COSINES,     /* ten cosines that fall */
     FREQUENCIES, /* ten frequencies that rise */
     INDEX,       /* an index of the quantiser: 24 bits */
+    CODE_ROWS,   /* the quantiser's rows, as a load leaves them */
+    ROW_FILE,    /* a file of code rows, with notes or none */
+    BAND,        /* a band of the rows */
+    ROW_INDEX,   /* a row of a band */
     SPACING,     /* a distance of lines in Hz */
     CHOICE,      /* a subframe, or more */
     HALF,        /* a half of a frame */

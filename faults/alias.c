@@ -1,6 +1,6 @@
-/* Calls with an input that starts where another buffer of floats starts. Every door has made its whole answer before it
- * writes, so the bits must be those of buffers apart; and a refused call must leave the shared array alone. This is what
- * include/g7231.h allows, and no more. */
+/* Calls with an input that starts where another buffer of floats starts. A door with such buffers makes its whole answer
+ * before it writes, so the bits must be those of buffers apart; and a refused call must leave the shared array alone.
+ * This is what include/g7231.h allows, and no more. */
 #include <stdio.h>
 #include <stdlib.h>
 #include <string.h>
@@ -15,6 +15,12 @@ struct answer {
     union room room[MOST];
 };
 
+/* The words that a buffer takes, a part of one included. */
+static size_t words_of(const struct given *given, const struct door *door, unsigned at)
+{
+    return (given->count[at] * door->parameter[at].width + 3) / 4;
+}
+
 /* Calls with the buffers of the set `sharing` at the place of the buffer `with`. */
 static void ask(const struct door *door, call *function, const struct given *given, unsigned sharing, unsigned with,
                 struct answer *answer)
@@ -23,7 +29,7 @@ static void ask(const struct door *door, call *function, const struct given *giv
     for (unsigned i = 0; i < door->count; i++) {
         argument[i] = given->value[i];
         if (!is_buffer(&door->parameter[i])) continue;
-        for (size_t n = 0; n < ROOM_BYTES / 4; n++) answer->room[i].word[n] = FILLER;
+        for (size_t n = 0; n < words_of(given, door, i); n++) answer->room[i].word[n] = FILLER;
         argument[i].place = answer->room[i].byte;
     }
     for (unsigned i = 0; i < door->count; i++) {
@@ -49,7 +55,7 @@ static int same(const struct door *door, const struct given *given, unsigned sha
             const union room *room = &shared->room[sharing >> i & 1 ? with : i];
             if (parameter->way != MADE && memcmp(room->byte, given->room[i].byte, bytes) != 0) return 0;
             if (parameter->way == MADE && i != with)
-                for (size_t n = 0; n < (bytes + 3) / 4; n++)
+                for (size_t n = 0; n < words_of(given, door, i); n++)
                     if (room->word[n] != FILLER) return 0;
         }
     }

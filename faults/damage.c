@@ -4,8 +4,17 @@
 
 #define PICK(random, list) ((list)[random_below(random, sizeof(list) / sizeof *(list))])
 
-static const size_t lengths[] = {0,   1,   59,  60,  61,  145, 179, 180, 181, 204, 205,  206, 264,
-                                 265, 266, 325, 359, 360, 361, 384, 385, 386, 1024, 2047, 2048};
+static const size_t lengths[] = {0,   1,   59,  60,  61,  145, 179, 180, 181,  204,  205,  206,  264,  265,
+                                 266, 325, 359, 360, 361, 384, 385, 386, 1024, 2047, 2048, 2559, 2560, 2561};
+
+/* Of a file of code rows: none of its last numbers, a part of them, and what is just enough and just too much. */
+static const size_t file_lengths[] = {
+    0, 1, FILE_END - 1, FILE_END, FILE_ROWS, FILE_LEAST - 1, FILE_LEAST, FILE_LEAST + 1, FILE_MOST - 1, FILE_MOST,
+    FILE_MOST + 1, FILE_MOST + 2, ROOM_BYTES,
+};
+
+/* Of a code row's number: the greatest and the least that are taken, and what lies beyond. */
+static const int row_limits[] = {ROW_LIMIT, ROW_LIMIT + 1, INT16_MAX, -ROW_LIMIT, -ROW_LIMIT - 1, INT16_MIN};
 
 static const size_t huge[] = {SIZE_MAX,     SIZE_MAX / 2, SIZE_MAX / 4 + 1, (size_t)1 << 62,
                               SIZE_MAX - 3, 1u << 31,     (size_t)1 << 32,  ((size_t)1 << 32) + 180};
@@ -74,7 +83,52 @@ static void set_length(const struct parameter *parameter, struct given *given, u
     given->value[at + 1].size = length;
 }
 
-/* Whether a door refuses a slice that is longer by one element: then it refuses every other length before it reads. */
+/* Makes a file longer or shorter by its notes: its end stays as it is. */
+static void set_notes(struct given *given, unsigned at, size_t length)
+{
+    unsigned char *const byte = given->room[at].byte;
+    const size_t had = given->count[at], kept = had < length ? had : length;
+    memmove(byte + length - kept, byte + had - kept, kept);
+    given->count[at] = length;
+    given->value[at + 1].size = length;
+}
+
+/* Turns bytes about. */
+static void turn_about(unsigned char *byte, size_t count)
+{
+    for (size_t i = 0; i < count / 2; i++) {
+        const unsigned char one = byte[i];
+        byte[i] = byte[count - 1 - i];
+        byte[count - 1 - i] = one;
+    }
+}
+
+/* Damages a file of code rows in one way, or puts a limit into it that is taken. */
+static void damage_file(const struct parameter *parameter, struct random *random, struct given *given, unsigned at)
+{
+    enum { NUMBER, BYTE, END_BIT, END_SWAPPED, END_HIGH_FIRST, NOTES, CUT, LENGTHENED, WAYS };
+    if (given->count[at] < FILE_LEAST) return;
+    unsigned char *const end = given->room[at].byte + given->count[at] - FILE_END, *const rows = end - FILE_ROWS;
+    const size_t way = random_below(random, WAYS);
+    if (way == NUMBER) {
+        const size_t places[] = {0, ROW_NUMBERS - 1, random_below(random, ROW_NUMBERS)}, place = PICK(random, places);
+        const int number = PICK(random, row_limits);
+        rows[2 * place] = (unsigned char)(number & 0xff);
+        rows[2 * place + 1] = (unsigned char)(number >> 8 & 0xff);
+    }
+    if (way == BYTE) rows[random_below(random, FILE_LEAST)] = (unsigned char)random_bits(random);
+    if (way == END_BIT) end[random_below(random, FILE_END)] ^= (unsigned char)(1u << random_below(random, 8));
+    /* the two numbers turned about are the second and the first, each turned about */
+    if (way == END_SWAPPED) turn_about(end, FILE_END);
+    if (way == END_SWAPPED || way == END_HIGH_FIRST)
+        for (size_t i = 0; i < FILE_END; i += 4) turn_about(end + i, 4);
+    if (way == NOTES) set_notes(given, at, PICK(random, file_lengths));
+    if (way == CUT) set_length(parameter, given, at, given->count[at] - 1 - random_below(random, FILE_END));
+    if (way == LENGTHENED) set_length(parameter, given, at, given->count[at] + 1 + random_below(random, FILE_END));
+}
+
+/* Whether a door refuses a slice that is longer by one element: then the header has it refuse every length that no memory
+ * has before it reads. */
 static int is_exact(const struct door *door, unsigned at)
 {
     static struct given given;
@@ -146,6 +200,8 @@ void make_damaged(const struct door *door, struct random *random, struct given *
             if (way != VALID && random_below(random, 3) == 0) disturb_value(parameter, random, &given->value[i]);
             continue;
         }
+        if (parameter->role == ROW_FILE && way != LIMITS && way != RANDOM && random_below(random, 2))
+            damage_file(parameter, random, given, i);
         for (size_t n = 0; n < given->count[i] && way == LIMITS; n++)
             put_limit(parameter, random, given, i, n, PICK(random, singles));
         for (size_t n = 0; n < given->count[i] * parameter->width && way == RANDOM; n += 4) {

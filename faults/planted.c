@@ -88,30 +88,62 @@ static uint32_t loops(const union argument *argument)
     return well(argument);
 }
 
-/* code_frame, which takes structs in parts: its parameters by name */
-static void *of_frame(const union argument *argument, const char *name)
+/* doors with more parameters: a door itself, and its buffers by name */
+static uint32_t asked(const char *door, const union argument *argument) { return doors[door_named(door)].safe(argument); }
+
+static void *lent(const char *door, const union argument *argument, const char *name)
 {
-    const struct door *door = &doors[door_named("code_frame")];
-    for (unsigned i = 0; i < door->count; i++)
-        if (strcmp(door->parameter[i].name, name) == 0) return argument[i].place;
+    const struct door *one = &doors[door_named(door)];
+    for (unsigned i = 0; i < one->count; i++)
+        if (strcmp(one->parameter[i].name, name) == 0) return argument[i].place;
     return NULL;
 }
 
-static uint32_t coded(const union argument *argument) { return doors[door_named("code_frame")].safe(argument); }
-
 static uint32_t moves_on_refused(const union argument *argument)
 {
-    const uint32_t status = coded(argument);
-    volatile float *const memory = of_frame(argument, "weighted");
+    const uint32_t status = asked("code_frame", argument);
+    volatile float *const memory = lent("code_frame", argument, "weighted");
     if (status == G7231_FRAME_LENGTH) memory[144] = 1;
     return status;
 }
 
 static uint32_t reads_a_361st(const union argument *argument)
 {
-    const volatile int16_t *const samples = of_frame(argument, "samples");
-    const uint32_t status = coded(argument);
+    const volatile int16_t *const samples = lent("code_frame", argument, "samples");
+    const uint32_t status = asked("code_frame", argument);
     if (status == G7231_DONE) (void)samples[360];
+    return status;
+}
+
+static uint32_t stores_then_tests(const union argument *argument)
+{
+    const uint32_t status = asked("load_rows", argument);
+    volatile int16_t *const rows = lent("load_rows", argument, "rows");
+    if (status == G7231_ROW_NUMBER) rows[0] = (int16_t)~rows[0];
+    return status;
+}
+
+static uint32_t looks_at_the_file(const union argument *argument)
+{
+    const uint32_t status = asked("load_rows", argument);
+    const volatile uint8_t *const file = lent("load_rows", argument, "file");
+    if (status == G7231_LENGTH) (void)file[0];
+    return status;
+}
+
+static uint32_t looks_at_a_2561st(const union argument *argument)
+{
+    const uint32_t status = asked("decode_lsp_freq_in", argument);
+    const volatile int16_t *const rows = lent("decode_lsp_freq_in", argument, "rows");
+    if (status == G7231_DONE) (void)rows[G7231_ROWS];
+    return status;
+}
+
+static uint32_t places_no_row(const union argument *argument)
+{
+    const uint32_t status = asked("row", argument);
+    volatile size_t *const start = lent("row", argument, "start");
+    if (status == G7231_CHOICE) *start = 0;
     return status;
 }
 
@@ -129,4 +161,8 @@ const struct planted planted[PLANTED] = {
     {"loops for ever", "lsp_to_lpc", loops, 1, "did not come back"},
     {"moves a memory on and refuses", "code_frame", moves_on_refused, 1, "refused with 8 and altered weighted"},
     {"reads a 361st sample", "code_frame", reads_a_361st, 1, "buffer samples, end at the page"},
+    {"stores rows before it tests them", "load_rows", stores_then_tests, 1, "refused with 11 and altered rows"},
+    {"looks at the file of a wrong buffer", "load_rows", looks_at_the_file, 1, "buffer file, end at the page"},
+    {"reads a 2,561st number", "decode_lsp_freq_in", looks_at_a_2561st, 1, "buffer rows, end at the page"},
+    {"places a row that it refuses", "row", places_no_row, 1, "refused with 2 and altered start"},
 };

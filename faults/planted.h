@@ -12,7 +12,7 @@ struct planted {
     const char *reported;   /* what the report must say */
 };
 
-enum { PLANTED = 13 };
+enum { PLANTED = 17 };
 extern const struct planted planted[PLANTED];
 
 #endif

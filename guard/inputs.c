@@ -82,6 +82,36 @@ static void rising(struct random *random, double a, double b, double line[10])
     }
 }
 
+/* Numbers of code rows. */
+static void rows(struct random *random, double *x, size_t count)
+{
+    for (size_t i = 0; i < count; i++) x[i] = (double)random_below(random, 2 * ROW_LIMIT + 1) - ROW_LIMIT;
+}
+
+/* A file of code rows byte by byte, with any notes before them. */
+static void row_file(struct random *random, double *x, size_t count)
+{
+    static const unsigned char end[FILE_END] = {FILE_LEAST & 0xff,  FILE_LEAST >> 8,  0, 0,
+                                                ROW_NUMBERS & 0xff, ROW_NUMBERS >> 8, 0, 0};
+    static double number[ROW_NUMBERS];
+    const size_t notes = count - FILE_LEAST;
+    rows(random, number, ROW_NUMBERS);
+    for (size_t i = 0; i < notes; i++) x[i] = (double)random_below(random, 256);
+    for (size_t i = 0; i < ROW_NUMBERS; i++) {
+        const unsigned pair = (unsigned)(int)number[i];
+        x[notes + 2 * i] = pair & 0xff;
+        x[notes + 2 * i + 1] = pair >> 8 & 0xff;
+    }
+    for (size_t i = 0; i < FILE_END; i++) x[notes + FILE_ROWS + i] = end[i];
+}
+
+/* How long a file is: with no notes, some, as many as there may be. */
+static size_t row_file_length(struct random *random)
+{
+    const size_t most = FILE_MOST - FILE_LEAST, way = random_below(random, 8);
+    return FILE_LEAST + (way == 0 ? 0 : way == 1 ? most : random_below(random, way < 5 ? 256 : most + 1));
+}
+
 /* What a role asks for, as numbers. There is no default: the compiler names a role that has no maker. */
 static void make_numbers(enum role role, struct random *random, double *x, size_t count)
 {
@@ -112,6 +142,10 @@ static void make_numbers(enum role role, struct random *random, double *x, size_
         ten[10] = 0;
         break;
     case INDEX: x[0] = random_bits(random) >> 8; return;
+    case CODE_ROWS: rows(random, x, count); return;
+    case ROW_FILE: row_file(random, x, count); return;
+    case BAND: x[0] = (double)random_below(random, 3); return;
+    case ROW_INDEX: x[0] = (double)random_below(random, 256); return;
     case SPACING: x[0] = random_between(random, 0, 400); return;
     case CHOICE: x[0] = (double)random_below(random, 5); return;
     case HALF: x[0] = (double)random_below(random, 2); return;
@@ -185,6 +219,7 @@ void make_valid(const struct door *door, struct random *random, struct given *gi
         const struct parameter *parameter = &door->parameter[i];
         memset(&given->value[i], 0, sizeof given->value[i]);
         given->count[i] = is_buffer(parameter) ? parameter->count : 0;
+        if (parameter->role == ROW_FILE) given->count[i] = row_file_length(random);
         if (given->count[i] * parameter->width > ROOM_BYTES) {
             fprintf(stderr, "%s of g7231_%s: no room: enlarge ROOM_BYTES in guard/inputs.h\n", parameter->name, door->name);
             exit(3);

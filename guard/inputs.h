@@ -17,8 +17,18 @@ uint32_t random_bits(struct random *random);
 size_t random_below(struct random *random, size_t n);
 double random_between(struct random *random, double a, double b);
 
-/* Room for a buffer, aligned for any element. */
-enum { ROOM_BYTES = 16384 };
+/* A file of code rows, as the header has it: notes, the numbers of the rows, and two numbers of four bytes. */
+enum {
+    ROW_NUMBERS = 2560,
+    ROW_LIMIT = 8192, /* the greatest magnitude of a number */
+    FILE_ROWS = 2 * ROW_NUMBERS,
+    FILE_END = 8,
+    FILE_LEAST = FILE_ROWS + FILE_END,
+    FILE_MOST = 32768
+};
+
+/* Room for a buffer, aligned for any element; a file that is too long has room too. */
+enum { ROOM_BYTES = FILE_MOST + 4096 };
 union room {
     double align;
     uint32_t word[ROOM_BYTES / 4]; /* the bits of singles */

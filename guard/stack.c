@@ -77,19 +77,30 @@ static uint32_t planted(const union argument *argument)
     return room[7];
 }
 
+/* A number of bytes; 0 where a word is none. */
+static size_t bytes_of(const char *word)
+{
+    char *end;
+    const size_t bytes = strtoul(word, &end, 10);
+    return *end ? 0 : bytes;
+}
+
 int main(int words, char **word)
 {
-    static const char help[] = "stack [BYTES [DOOR BYTES]]: the stack that a call of each door takes, over 200 valid calls;\n"
-                               "one door may have a bound of its own.\n"
+    static const char help[] = "stack [BYTES [BYTES DOOR...]]: the stack that a call of each door takes, over 200 valid\n"
+                               "calls; the doors that are named have the second bound.\n"
                                "Exit status: 0 below BYTES, where given; 1 not; 2 bad usage; 3 the harness itself.\n";
-    size_t most = 0, bound = 0, own = 0;
+    size_t most = 0, bound[DOORS] = {0};
     int high = 0;
-    char *end = "", *own_end = "";
     if (words == 2 && (strcmp(word[1], "--help") == 0 || strcmp(word[1], "-h") == 0)) return fputs(help, stdout), 0;
-    if (words >= 2) bound = strtoul(word[1], &end, 10);
-    if (words == 4) own = strtoul(word[3], &own_end, 10);
-    if (words == 3 || words > 4 || *end || *own_end || (words >= 2 && bound == 0) || (words == 4 && own == 0))
+    if (words == 3 || (words >= 2 && bytes_of(word[1]) == 0) || (words >= 4 && bytes_of(word[2]) == 0))
         return fputs(help, stderr), 2;
+    for (int number = 0; number < DOORS && words >= 2; number++) bound[number] = bytes_of(word[1]);
+    for (int i = 3; i < words; i++) {
+        const int number = door_named(word[i]);
+        if (number < 0) return fprintf(stderr, "stack: there is no door %s\n\n%s", word[i], help), 2;
+        bound[number] = bytes_of(word[2]);
+    }
     stack = mmap(NULL, STACK, PROT_READ | PROT_WRITE, MAP_PRIVATE | MAP_ANONYMOUS, -1, 0);
     must(stack == MAP_FAILED, "mmap");
     struct job job = {.function = planted};
@@ -102,11 +113,10 @@ int main(int words, char **word)
     for (int number = 0; number < DOORS; number++) {
         const size_t bare = deepest(number, 0), safe = deepest(number, 1);
         const size_t deeper = bare > safe ? bare : safe;
-        const size_t limit = words == 4 && strcmp(doors[number].name, word[2]) == 0 ? own : bound;
         printf("%-28s %8zu %8zu\n", doors[number].name, bare, safe);
         if (deeper > most) most = deeper;
-        if (limit && deeper >= limit) {
-            printf("FAILED: that is not below the %zu that the header says\n", limit);
+        if (bound[number] && deeper >= bound[number]) {
+            printf("FAILED: that is not below the %zu that the header says\n", bound[number]);
             high = 1;
         }
     }

@@ -14,7 +14,7 @@
  * Threads and memory. Every function is reentrant: nothing is allocated, and what
  * is kept between calls is the caller's. So any threads may call at once, as long
  * as no one writes a buffer that another call has. A call takes less than 16 KB of
- * stack, one of g7231_code_frame less than 28 KB.
+ * stack, one of g7231_code_frame or g7231_code_frame_in less than 28 KB.
  *
  * Buffers have the lengths written here and may not be null; a struct is a buffer
  * too. Buffers of one call may not overlap, but for this: buffers of floats that
@@ -39,7 +39,7 @@
 extern "C" {
 #endif
 
-#define G7231_VERSION "0.5.0"
+#define G7231_VERSION "0.6.0"
 
 enum {
     G7231_BANDS = 3,     /* bands of a line set, each with a row of the code tables */
@@ -51,7 +51,8 @@ enum {
     G7231_PAST = 145,    /* samples that are looked back on */
     G7231_WINDOW = 180,  /* samples of a window of linear prediction */
     G7231_FRAME = 240,   /* samples of a frame */
-    G7231_SPAN = 360     /* samples that a frame is coded from: 60 before it, its 240, 60 after it */
+    G7231_SPAN = 360,    /* samples that a frame is coded from: 60 before it, its 240, 60 after it */
+    G7231_ROWS = 2560    /* numbers of the code rows: 256 rows of three, 256 of three, 256 of four */
 };
 
 enum {
@@ -64,7 +65,9 @@ enum {
     G7231_MAGNITUDE = 6,    /* a number out of range */
     G7231_NO_LINE_SET = 7,  /* the filter has no set of ten line frequencies */
     G7231_FRAME_LENGTH = 8, /* a frame of other than 360 samples */
-    G7231_INDEX = 9         /* an index of more than 24 bits */
+    G7231_INDEX = 9,        /* an index of more than 24 bits */
+    G7231_ROW_FILE = 10,    /* no file of code rows */
+    G7231_ROW_NUMBER = 11   /* a code row's number outside -8,192..8,192 */
 };
 
 /* What a status means, in words; never null. */
@@ -301,6 +304,89 @@ uint32_t g7231_run_combined(float syn[G7231_ORDER], float wz_mem[G7231_ORDER], f
 uint32_t g7231_combined_impulse_response(const float aq[G7231_FILTER], const float wz[G7231_ORDER],
                                          const float wp[G7231_ORDER], uint32_t lag, float beta,
                                          float out[G7231_SUBFRAME]);
+
+/* Code rows of one's own. The functions above have the built-in code rows. Those
+ * below are lent theirs, which must be the numbers that g7231_load_rows stored, not
+ * altered since, and the same at both ends of a line. Then the ends come together
+ * again after losses exactly as with the built-in rows, which pass the same check.
+ * Lent rows are not checked again at each call: any other 2,560 numbers give defined
+ * answers, and no such promise. With greater ones a set may grow until it is
+ * refused, so that the line need not come together again. */
+
+/* Code rows from the bytes of a file: notes of any content, which are not looked at;
+ * 2,560 signed numbers of 16 bits, the rows of bands 0, 1 and 2 in order; and two
+ * numbers of 32 bits, 5,128, which is the distance from the file's end back to the
+ * first row, and 2,560, the count. Each number has its low byte first, and may start
+ * at an odd place. The file has at most 32,768 bytes, and so the notes 27,640.
+ * Has no bare form.
+ * Takes:
+ *   file: row file, 5,128 bytes, and the notes before them
+ * Makes:
+ *   rows: 2,560 numbers
+ * Refuses:
+ *   1 G7231_LENGTH: rows_len is not 2,560; the file is not looked at
+ *   10 G7231_ROW_FILE: len is above 32,768 or below 5,128, the distance is not
+ *     5,128, or the count is not 2,560
+ *   11 G7231_ROW_NUMBER: any of the rows' numbers is outside -8,192..8,192 */
+uint32_t g7231_load_rows(const uint8_t *file, size_t len, int16_t *rows, size_t rows_len);
+
+/* Where a row lies in lent rows: *count numbers from rows[*start] on.
+ * Has no bare form.
+ * Takes:
+ *   rows: code rows, 2,560 numbers
+ *   band: band, 0 to 2
+ *   index: row index, 0 to 255
+ * Refuses:
+ *   1 G7231_LENGTH: rows_len is not 2,560
+ *   2 G7231_CHOICE: the band is above 2, or the index above 255 */
+uint32_t g7231_row(const int16_t *rows, size_t rows_len, uint32_t band, uint32_t index, size_t *start, size_t *count);
+
+/* What g7231_quantise_lsp_freq does, over lent rows.
+ * Takes:
+ *   rows: code rows, 2,560 numbers
+ *   p: frequencies
+ *   prev: frequencies, the last call's set, or the resting set
+ * Refuses:
+ *   1 G7231_LENGTH: rows_len is not 2,560
+ *   5 G7231_NOT_FINITE: any of either set
+ *   6 G7231_MAGNITUDE: any of either set above 65,536 in magnitude */
+uint32_t g7231_quantise_lsp_freq_in(const int16_t *rows, size_t rows_len, const float p[G7231_ORDER],
+                                    const float prev[G7231_ORDER], uint32_t *index, float set[G7231_ORDER]);
+
+/* What g7231_decode_lsp_freq does, over lent rows.
+ * Takes:
+ *   rows: code rows, 2,560 numbers
+ *   index: index, 24 bits
+ *   prev: frequencies, the last call's set, or the resting set
+ * Refuses:
+ *   1 G7231_LENGTH: rows_len is not 2,560
+ *   9 G7231_INDEX: the index is above 16,777,215
+ *   5 G7231_NOT_FINITE: any of the previous set
+ *   6 G7231_MAGNITUDE: any of it above 65,536 in magnitude */
+uint32_t g7231_decode_lsp_freq_in(const int16_t *rows, size_t rows_len, uint32_t index, const float prev[G7231_ORDER],
+                                  float set[G7231_ORDER]);
+
+/* What g7231_code_frame does, over lent rows. What it says of the decoder holds with
+ * g7231_decode_lsp_freq_in over the same rows.
+ * Takes:
+ *   rows: code rows, 2,560 numbers
+ *   coder.set: frequencies, moved on
+ *   coder.lines: cosines, moved on
+ *   coder.x_mem, coder.f_mem, coder.weighted: speech, moved on
+ *   samples: speech, 360 samples, of which the frame is the 240 from place 60 on
+ *   spacing_hz: spacing, 0 to 400 Hz
+ * Refuses:
+ *   1 G7231_LENGTH: rows_len is not 2,560
+ *   8 G7231_FRAME_LENGTH: len is not 360
+ *   5 G7231_NOT_FINITE: any of coder->set
+ *   6 G7231_MAGNITUDE: any of coder->set above 65,536 in magnitude, or of the set
+ *     that the index stands for, which loaded rows never make so large
+ *   5 G7231_NOT_FINITE: the spacing
+ *   6 G7231_MAGNITUDE: the spacing below 0 or above 400
+ *   5 G7231_NOT_FINITE: any other of the coder, or any sample that the weighting
+ *     filter makes */
+uint32_t g7231_code_frame_in(const int16_t *rows, size_t rows_len, g7231_coder *coder, const int16_t *samples,
+                             size_t len, float spacing_hz, g7231_frame *frame);
 
 #ifdef __cplusplus
 }

@@ -2,8 +2,8 @@
 //!
 //! - The Rust: tables.rs, spec_tables.rs and spec_lsp.rs are taken whole, the items of `ITEMS` are cut out of
 //!   encoder.rs by matching braces. `published` has their text as it stands. `ruled` has the same text with each
-//!   call of cos, acos and log10 replaced by document 01's rule (`CALLS`). Both are written to cargo's output
-//!   folder alone.
+//!   call of cos, acos and log10 replaced by document 01's rule (`CALLS`). `spec_lsp_in` is spec_lsp.rs again as it stands,
+//!   but for where its rows come from (`BUILT_IN`). All are written to cargo's output folder alone.
 //! - The doors: `doors/make` prints their bindings and their table from include/g7231.h.
 //! - The library: the archive that ./install wrote.
 //!
@@ -75,6 +75,11 @@ const CALLS: [Call; 6] = [
     },
 ];
 
+/// Where spec_lsp.rs has its rows from, and what brings in lent ones; it must stand exactly once.
+const BUILT_IN: &str = "use crate::spec_tables::{LSP_DC_PREDICTED_FREQ_Q15, LspBand, lsp_codebook_entry};";
+const LENT: &str =
+    "use crate::own_rows::lsp_codebook_entry;\nuse crate::spec_tables::{LSP_DC_PREDICTED_FREQ_Q15, LspBand};";
+
 fn main() {
     let here = PathBuf::from(env::var("CARGO_MANIFEST_DIR").unwrap());
     let out = PathBuf::from(env::var("OUT_DIR").unwrap());
@@ -143,7 +148,7 @@ fn library(top: &Path) {
     println!("cargo::rustc-link-lib=static=g7231");
 }
 
-/// Writes the modules `tables`, `spec_tables`, `published` and `ruled`, where the Rust's source is.
+/// Writes the modules `tables`, `spec_tables`, `spec_lsp_in`, `published` and `ruled`, where the Rust's source is.
 fn rust(top: &Path, here: &Path, out: &Path) {
     println!("cargo::rustc-check-cfg=cfg(rust)");
     let (folder, named) = place("G7231_RUST", top.join("../shared/docs/src"));
@@ -169,6 +174,9 @@ fn rust(top: &Path, here: &Path, out: &Path) {
     for name in ["tables", "spec_tables"] {
         whole += &format!("#[allow(dead_code)]\n#[path = {:?}]\npub mod {name};\n", source(&format!("{name}.rs")));
     }
+    let over_lent_rows = out.join("spec_lsp_in.rs");
+    write(&over_lent_rows, &put(&spec_lsp, BUILT_IN, LENT, "spec_lsp.rs"));
+    whole += &format!("#[allow(dead_code, clippy::all)]\n#[path = {over_lent_rows:?}]\npub mod spec_lsp_in;\n");
     for ruled in [false, true] {
         let way = if ruled { "ruled" } else { "published" };
         let lsp = if ruled { replaced_in_file(&spec_lsp) } else { spec_lsp.clone() };
@@ -262,12 +270,17 @@ fn end_of(text: &str, head: usize, item: &str) -> usize {
 fn replaced(item: &str, text: &str) -> String {
     let mut text = text.to_string();
     for call in CALLS.iter().filter(|call| call.item == item) {
-        match text.matches(call.old).count() {
-            1 => text = text.replace(call.old, call.new),
-            n => fail(&format!("`{}` stands {n} times in the Rust's `{item}`, and once is wanted", call.old)),
-        }
+        text = put(&text, call.old, call.new, item);
     }
     text
+}
+
+/// The text of an item or a file with new words in place of old ones, which must stand in it once.
+fn put(text: &str, old: &str, new: &str, place: &str) -> String {
+    match text.matches(old).count() {
+        1 => text.replace(old, new),
+        n => fail(&format!("`{old}` stands {n} times in the Rust's `{place}`, and once is wanted")),
+    }
 }
 
 /// The same over spec_lsp.rs, which is taken whole.

@@ -2,9 +2,11 @@
 
 use crate::pairs::Run;
 use oracle::args::fail;
+use oracle::code_rows::built_in;
 use oracle::doors::made::{Argument, Door, Element, Many, Parameter, Way, G7231_DONE};
 use oracle::makers;
 use oracle::random::Random;
+use oracle::row_file::image;
 use oracle::speech::loud_piece;
 use std::hint::black_box;
 
@@ -100,6 +102,11 @@ fn drawn(parameter: &Parameter, random: &mut Random, taps: &mut Option<(Ten, Ten
         "cosines" => wide(&makers::cosines(random)),
         "frequencies" => wide(&makers::ordered(random)),
         "index" => vec![f64::from(random.bits() >> 8)],
+        // the rows that the Rust has
+        "code rows" => built_in().iter().map(|number| f64::from(*number)).collect(),
+        "row file" => image(&[], built_in()).into_iter().map(f64::from).collect(),
+        "band" => vec![random.below(3) as f64],
+        "row index" => vec![random.below(256) as f64],
         "spacing" => vec![31.25],
         "choice" => vec![random.below(4) as f64],
         "half" => vec![random.below(2) as f64],
@@ -132,6 +139,8 @@ pub fn run(given: &Given) -> Run {
     let answers: Vec<*mut u64> = door.parameters.iter().map(|parameter| lent.add(room(parameter))).collect();
     let kept = |parameter: &&Parameter| parameter.way == Way::Kept;
     let memory = lent.add(door.parameters.iter().filter(kept).flat_map(room).collect());
+    // What is the same for every input lies in one place, as the rows of a host do.
+    let same = |at: usize| given.values[at].iter().all(|values| *values == given.values[at][0]);
     let mut calls: Vec<(Vec<Argument>, Vec<u64>)> = Vec::new();
     for i in 0..INPUTS {
         let mut held = Vec::new();
@@ -141,6 +150,7 @@ pub fn run(given: &Given) -> Run {
                 (_, Many::Length) => Argument { size: count(&door.parameters[at - 1]) },
                 (Way::Made, _) => Argument { place: answers[at].cast() },
                 (Way::Value, _) => value(parameter.element, values[0]),
+                (Way::Read, _) if i > 0 && same(at) => calls[0].0[at],
                 (Way::Read, _) => Argument { place: lent.add(bytes(parameter.element, values)).cast() },
                 (Way::Kept, _) => {
                     let place = memory.wrapping_add(held.len()).cast();

@@ -29,6 +29,7 @@ by its door and by the doors of its stages in a chain, both beside the published
 
 It prints a table in markdown, with a dash where the Rust has no such function; the frame comes first, and after the table
 what it takes beside the chain of its doors. Inputs are drawn by the words with which the header says what a parameter holds.
+A door over lent code rows is lent the Rust's, and stands beside the function that has them built in.
 bench/run builds it, counts instructions and runs it.
 Exit status: 0 done; 1 the Rust is not at hand, a door refuses what is drawn for it, or a file could not be read or
 written; 2 bad usage.

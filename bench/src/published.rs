@@ -1,5 +1,5 @@
 //! The published Rust's functions on the inputs that a door is called on; for a frame, which it has no function for, its
-//! functions in a chain.
+//! functions in a chain; and the same for the doors over lent rows, which are lent the Rust's own.
 
 use crate::chains;
 use crate::given::Given;
@@ -15,8 +15,8 @@ fn timed<T>(call: impl Fn(usize) -> T + 'static) -> Option<Run> {
 
 /// For each function: the door's parameters that it takes, in which form, and its call.
 macro_rules! functions {
-    ($rust:ident, $given:ident; $($name:ident($($parameter:ident: $form:ident),*) => $call:expr;)*) => {
-        $(if $given.door.name == stringify!($name) {
+    ($rust:ident, $given:ident, $called:ident; $($name:ident($($parameter:ident: $form:ident),*) => $call:expr;)*) => {
+        $(if $called == stringify!($name) {
             let $name = $rust.$name;
             $(let $parameter = $given.$form(stringify!($parameter));)*
             return timed(move |i| {
@@ -27,12 +27,13 @@ macro_rules! functions {
     };
 }
 
-/// The Rust's function of a door's name, if it has one.
+/// The Rust's function of a door's name, if it has one. A door over lent rows has the name of the one over built-in rows, and `_in`.
 pub fn run(rust: &Rust, given: &Given) -> Option<Run> {
-    if given.door.name == FRAME {
+    let called = given.door.name.strip_suffix("_in").unwrap_or(given.door.name);
+    if called == FRAME {
         return Some(chains::published(rust, given));
     }
-    functions! { rust, given;
+    functions! { rust, given, called;
         lpc_analysis(window: lists) => lpc_analysis(window);
         lpc_to_lsp(a: arrays) => lpc_to_lsp(a);
         lsp_cosines_to_freq(cosines: arrays) => lsp_cosines_to_freq(cosines);

@@ -1,4 +1,6 @@
 /* The doors of the header beside it, as far as a test needs them. */
+#include <string.h>
+
 #include "g7231_bare.h"
 
 uint32_t g7231_unpack(const uint8_t *bytes, size_t len, int16_t *out, size_t out_len)
@@ -36,6 +38,41 @@ uint32_t g7231_bare_move(float *level, int16_t rows[6], int32_t by, int32_t *tot
     for (int i = 0; i < 2; i++) each[i] = *level * rows[3 * i];
     for (int i = 0; i < 6; i++) rows[i] = (int16_t)(i == 5 ? 7 : rows[i + 1]);
     *level /= 2;
+    return G7231_DONE;
+}
+
+uint32_t g7231_unroll(const uint8_t *file, size_t len, int16_t *numbers, size_t numbers_len, uint32_t band, uint8_t row,
+                      size_t *start, size_t *count)
+{
+    static const uint8_t end[] = {0x08, 0x14, 0, 0, 0, 0x0a, 0, 0};
+    if (len > 32768 || len < 5128 || numbers_len != 2560) return G7231_LENGTH;
+    if (memcmp(file + len - 8, end, 8) != 0 || band > 2) return G7231_SUM;
+#ifdef PLACES_BEFORE_IT_TESTS
+    ++*start;
+#endif
+    int number[2560];
+    for (int i = 0; i < 2560; i++) {
+        const uint8_t *pair = file + len - 5128 + 2 * i;
+        number[i] = pair[0] + 256 * pair[1] - (pair[1] < 128 ? 0 : 65536);
+        if (number[i] < -8192 || number[i] > 8192) return G7231_SUM;
+#ifdef STORES_BEFORE_IT_TESTS
+        numbers[i] = (int16_t)number[i];
+#endif
+    }
+    for (int i = 0; i < 2560; i++) numbers[i] = (int16_t)number[i];
+    *count = band == 2 ? 4 : 3;
+    *start = 768 * band + *count * row;
+    return G7231_DONE;
+}
+
+uint32_t g7231_bare_shift(const int16_t *by, size_t by_len, float *level, int16_t rows[6], const uint8_t *bytes,
+                          size_t len, size_t *far)
+{
+    if (by_len != 5) return G7231_LENGTH;
+    if (len != 2) return G7231_SUM;
+    for (int i = 0; i < 5; i++) rows[i] = (int16_t)(rows[i + 1] ^ by[i]);
+    *level += 1;
+    *far = (size_t)bytes[0] << 40 | bytes[1];
     return G7231_DONE;
 }
 

@@ -84,6 +84,31 @@ uint32_t g7231_gains(g7231_held_state one, const g7231_held_state two[2], uint16
  *   3 G7231_SUM: by is the greatest number */
 uint32_t g7231_move(g7231_kept *kept, int32_t by, g7231_told *told);
 
+/* Numbers out of a file into a list, and where one row of them stands. Has no bare form.
+ * Takes:
+ *   file: row file, 5,128 bytes or more
+ *   band: band, 0 to 2
+ *   row: row index
+ * Makes:
+ *   numbers: 2,560 of them
+ * Refuses:
+ *   1 G7231_LENGTH: len is above 32,768 or below 5,128, or numbers_len is not 2,560
+ *   3 G7231_SUM: the file does not end as it must, or any number is outside
+ *     -8,192..8,192, or there is no such row */
+uint32_t g7231_unroll(const uint8_t *file, size_t len, int16_t *numbers, size_t numbers_len, uint32_t band, uint8_t row,
+                      size_t *start, size_t *count);
+
+/* Slices on both sides of a struct in parts.
+ * Takes:
+ *   by: code rows, 5 of them
+ *   kept.level: factor, moved on
+ *   kept.rows: code rows, moved on
+ *   bytes: any, 2 of them
+ * Refuses:
+ *   1 G7231_LENGTH: by_len is not 5
+ *   3 G7231_SUM: len is not 2 */
+uint32_t g7231_shift(const int16_t *by, size_t by_len, g7231_kept *kept, const uint8_t *bytes, size_t len, size_t *far);
+
 /* A struct in parts that is only read.
  * Takes:
  *   kept.level: factor

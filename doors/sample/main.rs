@@ -6,8 +6,8 @@ mod doors {
 use doors::{Argument, Door, Element, Many, Way, DOORS};
 
 /// The status of a call, and what is then in each parameter's buffer.
-fn ask(door: &Door, call: unsafe fn(&[Argument]) -> u32) -> (u32, Vec<[u64; 64]>) {
-    let mut rooms = vec![[0u64; 64]; door.parameters.len()];
+fn ask(door: &Door, call: unsafe fn(&[Argument]) -> u32) -> (u32, Vec<Vec<u64>>) {
+    let mut rooms = vec![vec![0u64; 1024]; door.parameters.len()];
     let mut list = Vec::new();
     for (i, p) in door.parameters.iter().enumerate() {
         let lent = p.way != Way::Value || matches!(p.element, Element::Struct(_));

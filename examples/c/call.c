@@ -4,45 +4,16 @@
  *
  * The excitation search is not part of the library: where a coder would send the excitation that it found through
  * g7231_run_combined, this example sends the samples. */
-#include <inttypes.h>
-#include <stdio.h>
-#include <stdlib.h>
-#include <string.h>
-
+#define PROGRAM "call"
 #include "g7231.h"
+#include "shared.h"
 
-enum {
-    LINES = G7231_ORDER,
-    FRAME = G7231_FRAME,
-    SUBFRAME = G7231_SUBFRAME,
-    PAST = G7231_PAST,
-    SPAN = G7231_SPAN,
-    AROUND = (SPAN - FRAME) / 2 /* samples looked at before a frame, and after it */
-};
+enum { LINES = G7231_ORDER, SUBFRAME = G7231_SUBFRAME, PAST = G7231_PAST };
 
-static const float spacing_hz = 31.25f;
-
-/* ---- hashes of what was answered (FNV-1a, 64 bits, low byte first); no struct here has gaps between its fields */
-
-#define NOTHING 14695981039346656037u
-static uint64_t coded = NOTHING, called = NOTHING, stepped = NOTHING, answers = NOTHING;
-
-static void hash(uint64_t *of, const void *what, size_t bytes)
-{
-    const unsigned char *byte = what;
-    for (size_t i = 0; i < bytes; i++) *of = (*of ^ byte[i]) * 1099511628211u;
-}
+/* Of the doors one by one, and of all answers. */
+static uint64_t stepped = NOTHING, answers = NOTHING;
 
 #define ANSWERED(what) hash(&answers, &(what), sizeof(what))
-
-/* Every call but the one that may be refused with 7 must be done. */
-static void done(uint32_t status, const char *door)
-{
-    if (status == G7231_DONE) return;
-    fprintf(stderr, "call: %s refused: %s\n", door, g7231_refusal(status));
-    exit(1);
-}
-#define DONE(door, arguments) done(door arguments, #door)
 
 /* ---- what both ends do with a set */
 
@@ -183,55 +154,7 @@ static void decode(struct decoder *decoder, const uint8_t sent[G7231_BANDS], flo
     filters(last, decoder->lines, a);
 }
 
-/* ---- the file */
-
-/* The samples with 60 zeros before and after them, and zeros where the last frame is not whole; ends the program where
- * it cannot. */
-static int16_t *read_call(const char *name, size_t *frames)
-{
-    FILE *file = fopen(name, "rb");
-    if (!file) {
-        fprintf(stderr, "call: ");
-        perror(name);
-        exit(1);
-    }
-    size_t count = 0, room = 1 << 16, got = 0;
-    int16_t *samples = calloc(room, sizeof *samples);
-    unsigned char pair[2];
-    while (samples && (got = fread(pair, 1, 2, file)) == 2) {
-        if (count + SPAN >= room) {
-            int16_t *more = realloc(samples, 2 * room * sizeof *samples);
-            if (!more) free(samples);
-            samples = more;
-            if (!samples) break;
-            memset(samples + room, 0, room * sizeof *samples);
-            room *= 2;
-        }
-        const int sample = pair[0] | pair[1] << 8;
-        samples[AROUND + count++] = (int16_t)(sample < 32768 ? sample : sample - 65536);
-    }
-    if (!samples || ferror(file) || got == 1 || count == 0) {
-        fprintf(stderr, "call: %s: %s\n", name,
-                !samples       ? "no memory"
-                : ferror(file) ? "it cannot be read"
-                : count == 0   ? "it has no samples"
-                               : "it ends with half a sample");
-        exit(1);
-    }
-    fclose(file);
-    *frames = (count + FRAME - 1) / FRAME;
-    return samples;
-}
-
 /* ---- the call */
-
-/* Ends the program where two have not the same bits. */
-static void same(const void *one, const void *other, size_t bytes, size_t frame, const char *part)
-{
-    if (memcmp(one, other, bytes) == 0) return;
-    fprintf(stderr, "call: frame %zu: %s\n", frame, part);
-    exit(1);
-}
 
 int main(int words, char **word)
 {
@@ -243,6 +166,7 @@ int main(int words, char **word)
     int16_t *samples = read_call(word[1], &frames);
     static struct combined memory;
     struct decoder decoder;
+    struct hashes hashes = {NOTHING, NOTHING};
     g7231_coder caller, stepper;
     DONE(g7231_new_coder, (&caller));
     DONE(g7231_new_coder, (&stepper));
@@ -256,10 +180,7 @@ int main(int words, char **word)
         uint8_t sent[G7231_BANDS];
 
         DONE(g7231_code_frame, (&caller, samples + k * FRAME, SPAN, spacing_hz, &frame));
-        hash(&coded, &frame.index, sizeof frame.index);
-        hash(&coded, frame.pitch, sizeof frame.pitch);
-        hash(&called, &frame, sizeof frame);
-        hash(&called, &caller, sizeof caller);
+        hash_frame(&hashes, &frame, &caller);
 
         for (int i = 0; i < SPAN; i++) x[i] = samples[k * FRAME + i];
         step(&stepper, x, taps, &again);
@@ -279,8 +200,7 @@ int main(int words, char **word)
         printf("frame %3zu  index %8" PRIu32 "  lags %3" PRIu32 " %3" PRIu32 "\n", k, frame.index, frame.pitch[0],
                frame.pitch[1]);
     }
-    printf("indices and lags      %016" PRIx64 "\n", coded);
-    printf("the frame call        %016" PRIx64 "\n", called);
+    print_hashes(&hashes);
     printf("the doors one by one  %016" PRIx64 "\n", stepped);
     printf("all answers           %016" PRIx64 "\n", answers);
     free(samples);

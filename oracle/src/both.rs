@@ -18,7 +18,12 @@ pub fn rust() -> Result<Both, String> {
 #[cfg(all(test, rust))]
 mod tests {
     use super::*;
+    use crate::code_rows::built_in;
+    use crate::makers::{decoded, ordered, resting};
+    use crate::random::Random;
     use crate::reference::Memory;
+    use crate::row_file::place;
+    use crate::spec_tables::{lsp_codebook_entry, LspBand};
 
     /// Factor 0.25, and no prediction and no weighting.
     fn over_a_history_that_counts(lag: i32) -> (Memory, [f32; 60]) {
@@ -54,11 +59,29 @@ mod tests {
     #[test]
     fn the_published_decoder_meets_the_cases_of_an_index() {
         let Rust { decode_lsp_freq, split_lsp_index, combine_lsp_index, .. } = rust().unwrap().published;
-        let (resting, most) = (crate::makers::resting(), 16_777_215);
+        let (resting, most) = (resting(), 16_777_215);
         let wanted = [4824.0, 9514.0, 13702.0, 14841.0, 19206.0, 21407.0, 22675.0, 25777.0, 28051.0, 29036.0];
         assert_eq!(decode_lsp_freq(most, &resting), wanted);
         assert_eq!(decode_lsp_freq(50_397_699, &resting), decode_lsp_freq(66_051, &resting));
         assert_eq!([66_051, 4_278_256_131].map(split_lsp_index), [[1, 2, 3]; 2]);
         assert_eq!((split_lsp_index(most), combine_lsp_index([255; 3])), ([255; 3], most));
+    }
+
+    /// Request E5: rows are lent to the published text in place of its own.
+    #[test]
+    fn over_its_own_rows_the_published_text_is_itself() {
+        let rust = rust().unwrap().published;
+        for band in LspBand::ALL {
+            for index in 0..=255 {
+                let (start, count) = place(band as usize, index.into());
+                assert_eq!(built_in()[start..start + count], *lsp_codebook_entry(band, index));
+            }
+        }
+        for turn in 0..2_000 {
+            let random = &mut Random::new(1, 0, turn);
+            let (p, prev, index) = (ordered(random), decoded(random), random.bits());
+            assert_eq!((rust.quantise_lsp_freq_in)(built_in(), &p, &prev), (rust.quantise_lsp_freq)(&p, &prev));
+            assert_eq!((rust.decode_lsp_freq_in)(built_in(), index, &prev), (rust.decode_lsp_freq)(index, &prev));
+        }
     }
 }

@@ -2,6 +2,7 @@
 
 /// An input with the library's answer and the published Rust's.
 pub struct Seen<'a> {
+    pub turn: u64,
     pub given: &'a [u32],
     pub status: u32,
     pub gave: &'a [u32],
@@ -17,10 +18,11 @@ pub struct Distance {
     pub shown_by: Vec<u32>,
 }
 
-/// How often answers were another kind of answer than the published Rust's.
+/// How often answers were another kind of answer than the published Rust's, and the first turn and input that showed it.
 pub struct Count {
     pub what: &'static str,
     pub times: u64,
+    pub turn: u64,
     pub shown_by: Vec<u32>,
 }
 
@@ -45,17 +47,17 @@ impl Distances {
         }
     }
 
-    pub fn count(&mut self, what: &'static str, when: bool, shown_by: &[u32]) {
-        self.add(what, u64::from(when), shown_by);
+    pub fn count(&mut self, what: &'static str, when: bool, turn: u64, shown_by: &[u32]) {
+        self.add(what, u64::from(when), turn, shown_by);
     }
 
-    fn add(&mut self, what: &'static str, times: u64, shown_by: &[u32]) {
+    fn add(&mut self, what: &'static str, times: u64, turn: u64, shown_by: &[u32]) {
         if self.counts.iter().all(|own| own.what != what) {
-            self.counts.push(Count { what, times: 0, shown_by: Vec::new() });
+            self.counts.push(Count { what, times: 0, turn, shown_by: Vec::new() });
         }
         for own in self.counts.iter_mut().filter(|own| own.what == what) {
             if own.times == 0 && times > 0 {
-                own.shown_by = shown_by.to_vec();
+                (own.turn, own.shown_by) = (turn, shown_by.to_vec());
             }
             own.times += times;
         }
@@ -67,7 +69,7 @@ impl Distances {
             self.seen(distance.what, distance.bound, distance.largest, &distance.shown_by);
         }
         for count in later.counts {
-            self.add(count.what, count.times, &count.shown_by);
+            self.add(count.what, count.times, count.turn, &count.shown_by);
         }
     }
 }
@@ -98,7 +100,8 @@ pub fn cosine(seen: &Seen, distances: &mut Distances) {
 }
 
 pub fn root(seen: &Seen, distances: &mut Distances) {
-    distances.count("one side has a line set and the other none", seen.status != seen.published_status, seen.given);
+    let one_alone = seen.status != seen.published_status;
+    distances.count("one side has a line set and the other none", one_alone, seen.turn, seen.given);
     if seen.status == 0 && seen.published_status == 0 {
         let far = seen.gave.iter().zip(seen.published).map(|(a, b)| apart(*a, *b)).fold(0.0, f64::max);
         distances.seen("cosines", None, far, seen.given);
@@ -109,15 +112,16 @@ pub fn stability(seen: &Seen, distances: &mut Distances) {
     if seen.status != 0 {
         return;
     }
-    distances.count("one side converged and the other not", seen.gave[10] != seen.published[10], seen.given);
+    let one_alone = seen.gave[10] != seen.published[10];
+    distances.count("one side converged and the other not", one_alone, seen.turn, seen.given);
     let far = seen.gave[..10].iter().zip(seen.published).map(|(a, b)| apart(*a, *b)).fold(0.0, f64::max);
-    let what = if seen.gave[10] == seen.published[10] { "cosines" } else { "cosines where one side converged" };
+    let what = if one_alone { "cosines where one side converged" } else { "cosines" };
     distances.seen(what, None, far, seen.given);
 }
 
 pub fn shaping(seen: &Seen, distances: &mut Distances) {
     if seen.status == 0 {
-        distances.count("one side shapes and the other not", seen.gave != seen.published, seen.given);
+        distances.count("one side shapes and the other not", seen.gave != seen.published, seen.turn, seen.given);
     }
 }
 
@@ -126,6 +130,7 @@ const INDEX: usize = 185;
 
 pub fn frame(seen: &Seen, distances: &mut Distances) {
     if seen.status == 0 {
-        distances.count("one side has another index", seen.gave[INDEX] != seen.published[INDEX], seen.given);
+        let other = seen.gave[INDEX] != seen.published[INDEX];
+        distances.count("one side has another index", other, seen.turn, seen.given);
     }
 }

@@ -16,7 +16,7 @@ fn kind(parameter: &Parameter) -> Option<Kind> {
     Some(match (parameter.way, parameter.element, parameter.many) {
         (_, _, Many::Length) => return None,
         (Way::Value, Element::F32, Many::One) => Kind::Single,
-        (Way::Value, Element::Size, Many::One) => Kind::Word,
+        (_, Element::Size, Many::One) => Kind::Word,
         (_, Element::U32, Many::One) => Kind::Number,
         (_, Element::F32, Many::One) => Kind::Singles(1),
         (_, Element::F32, Many::Fixed(n)) => Kind::Singles(n),
@@ -24,18 +24,37 @@ fn kind(parameter: &Parameter) -> Option<Kind> {
         (_, Element::U32, Many::Fixed(n)) => Kind::Numbers(n),
         (_, Element::U8, Many::Fixed(n)) => Kind::Bytes(n),
         (Way::Read, Element::F32, Many::Slice(_)) => Kind::Samples,
-        (Way::Read, Element::I16, Many::Slice(_)) => Kind::Shorts,
+        (Way::Read | Way::Made, Element::I16, Many::Slice(_)) => Kind::Shorts,
+        (Way::Read, Element::U8, Many::Slice(_)) => Kind::ByteList,
         _ => panic!("the parameter {} has no form in words yet", parameter.name),
     })
 }
 
-/// The fields that a door takes, and those that it gives. A memory is among both.
+/// Whether a parameter is a list that is only written: the caller gives its length.
+fn is_room(parameter: &Parameter) -> bool {
+    parameter.way == Way::Made && matches!(parameter.many, Many::Slice(_))
+}
+
+/// The fields that a door takes, and those that it gives. A memory is among both; of a list that is only written the door takes
+/// the number of its places.
 pub fn fields(door: &Door) -> (Vec<Field>, Vec<Field>) {
-    let of = |test: fn(&Parameter) -> bool| {
-        let own = door.parameters.iter().filter(|parameter| test(parameter));
-        own.filter_map(|p| Some(Field { name: p.name, kind: kind(p)?, role: p.role })).collect()
-    };
-    (of(|p| p.way != Way::Made), of(|p| matches!(p.way, Way::Made | Way::Kept)))
+    let field = |name, kind, role| Field { name, kind, role };
+    let of = |p: &Parameter| Some(field(p.name, kind(p)?, p.role));
+    let (mut takes, mut gives, mut room) = (Vec::new(), Vec::new(), false);
+    for parameter in door.parameters {
+        match parameter.way {
+            _ if room => takes.push(field(parameter.name, Kind::Places, parameter.role)),
+            Way::Made => gives.extend(of(parameter)),
+            Way::Kept => {
+                takes.extend(of(parameter));
+                gives.extend(of(parameter));
+            }
+            Way::Read | Way::Value => takes.extend(of(parameter)),
+        }
+        // its length is the next
+        room = is_room(parameter);
+    }
+    (takes, gives)
 }
 
 /// The resting set of the line frequencies, by its door.
@@ -64,9 +83,11 @@ impl Buffer {
         let units = (words.len() * size).div_ceil(8);
         let mut store: Vec<u64> = (0..2 * GUARD + units).map(|_| random.next()).collect();
         let mask = mask(size);
-        for (i, word) in words.iter().enumerate() {
-            let (unit, shift) = place(i, size);
-            store[unit] = store[unit] & !(mask << shift) | (u64::from(*word) & mask) << shift;
+        for (unit, own) in store[GUARD..].iter_mut().zip(words.chunks(8 / size)) {
+            for (i, word) in own.iter().enumerate() {
+                let shift = 8 * size * i;
+                *unit = *unit & !(mask << shift) | (u64::from(*word) & mask) << shift;
+            }
         }
         Buffer { before: store.clone(), store, count: words.len(), size }
     }
@@ -135,7 +156,10 @@ impl Frame {
         let mut part = || parts.next().unwrap_or_default();
         let hand = |parameter: &Parameter| match (kind(parameter), parameter.way) {
             (None, _) => Handed::Length,
-            (Some(kind), Way::Made) => Handed::Lent(Buffer::new(&fill(kind.words(), random), size_of(kind), random)),
+            (Some(kind), Way::Made) => {
+                let words = if is_room(parameter) { part()[0] as usize } else { kind.words() };
+                Handed::Lent(Buffer::new(&fill(words, random), size_of(kind), random))
+            }
             (Some(kind), Way::Value) => Handed::Value(value(kind, part())),
             (Some(kind), Way::Read | Way::Kept) => Handed::Lent(Buffer::new(part(), size_of(kind), random)),
         };
@@ -169,13 +193,16 @@ impl Frame {
         })
     }
 
-    /// What the call gave, in words; doubles lie in memory low word first.
+    /// What the call gave, in words; doubles and machine words lie in memory low word first.
     pub fn gave(&self) -> Vec<u32> {
         let mut words = Vec::new();
         for (parameter, buffer) in self.lent().filter(|(parameter, _)| parameter.way != Way::Read) {
             let mut own = buffer.words();
-            if parameter.element == Element::F64 {
+            if matches!(parameter.element, Element::F64 | Element::Size) {
                 own.chunks_mut(2).for_each(|pair| pair.swap(0, 1));
+            }
+            if is_room(parameter) {
+                words.push(own.len() as u32);
             }
             words.extend(own);
         }
@@ -202,7 +229,7 @@ impl Frame {
 /// The bytes of memory that a word of a lent field stands for.
 fn size_of(kind: Kind) -> usize {
     match kind {
-        Kind::Bytes(_) => 1,
+        Kind::Bytes(_) | Kind::ByteList => 1,
         Kind::Shorts => 2,
         _ => 4,
     }

@@ -1,15 +1,25 @@
-//! A frame and a new coder in words: the chain over document 01's operations as `reference` has them, refusals included.
+//! A frame and a new coder in words: the chain over document 01's operations as `reference` has them, refusals included; and a
+//! frame over lent rows, as request E5 has it.
 
 use crate::chain::{self, Coded, Coder, Eleven, Stages, Subframe, Ten};
 use crate::reference::{self, Answer, Rust};
 use crate::words::{Reader, Words};
 
 /// The Rust's functions behind document 01's refusals.
-struct Refusing<'a>(&'a Rust);
+struct Refusing<'a> {
+    rust: &'a Rust,
+    /// The rows that are quantised over, where they are not the built-in ones.
+    rows: Option<&'a [i16]>,
+}
+
+/// The same over the built-in rows.
+fn refusing(rust: &Rust) -> Refusing<'_> {
+    Refusing { rust, rows: None }
+}
 
 impl Refusing<'_> {
     fn ask(&self, operation: fn(&Rust, Reader) -> Answer, given: Words) -> Answer {
-        operation(self.0, Reader::new(&given.0))
+        operation(self.rust, Reader::new(&given.0))
     }
 
     /// An answer whose first words are singles.
@@ -40,7 +50,10 @@ impl Stages for Refusing<'_> {
     }
 
     fn quantise_lsp_freq(&self, p: &Ten, prev: &Ten) -> Result<(u32, Ten), u32> {
-        let answer = self.ask(reference::quantise_lsp_freq, given().singles(p).singles(prev))?;
+        let answer = match self.rows {
+            None => self.ask(reference::quantise_lsp_freq, given().singles(p).singles(prev)),
+            Some(rows) => self.ask(reference::quantise_lsp_freq_in, given().shorts(rows).singles(p).singles(prev)),
+        }?;
         let mut answer = answer.reader();
         Ok((answer.number(), answer.singles()))
     }
@@ -105,13 +118,22 @@ fn memories(coder: &Coder) -> Words {
 }
 
 pub fn new_coder(rust: &Rust, _: Reader) -> Answer {
-    Ok(memories(&chain::new_coder(&Refusing(rust))?))
+    Ok(memories(&chain::new_coder(&refusing(rust))?))
 }
 
-pub fn code_frame(rust: &Rust, mut given: Reader) -> Answer {
+pub fn code_frame(rust: &Rust, given: Reader) -> Answer {
+    coded(&refusing(rust), given)
+}
+
+pub fn code_frame_in(rust: &Rust, mut given: Reader) -> Answer {
+    let rows = reference::lent_rows(&mut given)?;
+    coded(&Refusing { rust, rows: Some(&rows) }, given)
+}
+
+fn coded(stages: &Refusing, mut given: Reader) -> Answer {
     let mut coder = coder(&mut given);
     let (samples, spacing_hz) = (given.shorts(), given.single());
-    let Coded { index, pitch, shaping, a } = chain::code_frame(&Refusing(rust), &mut coder, &samples, spacing_hz)?;
+    let Coded { index, pitch, shaping, a } = chain::code_frame(stages, &mut coder, &samples, spacing_hz)?;
     let lags = shaping.map(|(lag, _)| lag);
     let factors = shaping.map(|(_, factor)| factor);
     Ok(memories(&coder).number(index).numbers(&pitch).numbers(&lags).singles(&factors).singles(a.as_flattened()))
@@ -120,6 +142,7 @@ pub fn code_frame(rust: &Rust, mut given: Reader) -> Answer {
 #[cfg(all(test, rust))]
 mod tests {
     use super::*;
+    use crate::code_rows::{built_in, worked};
     use crate::hash::Hash;
     use crate::makers::resting;
 
@@ -147,14 +170,14 @@ mod tests {
     type Told = (u32, [u32; 2], [(u32, u32); 4], u64);
 
     fn told(coder: &mut Coder, samples: &[i16]) -> Told {
-        let coded = chain::code_frame(&Refusing(&rust()), coder, samples, SPACING).ok().unwrap();
+        let coded = chain::code_frame(&refusing(&rust()), coder, samples, SPACING).ok().unwrap();
         let mut hash = Hash::new();
         hash.singles(coded.a.as_flattened());
         (coded.index, coded.pitch, coded.shaping.map(|(lag, factor)| (lag, factor.to_bits())), hash.0)
     }
 
     fn started() -> Coder {
-        chain::new_coder(&Refusing(&rust())).ok().unwrap()
+        chain::new_coder(&refusing(&rust())).ok().unwrap()
     }
 
     #[test]
@@ -175,7 +198,7 @@ mod tests {
     #[test]
     fn a_filter_without_lines_has_the_decoded_set_quantised() {
         let rust = rust();
-        let stages = Refusing(&rust);
+        let stages = refusing(&rust);
         let mut a = [0.0; 11];
         (a[0], a[2]) = (1.0, 1.0);
         assert_eq!(stages.lpc_to_lsp(&a), Err(7));
@@ -186,5 +209,27 @@ mod tests {
         // and not the lines that were last held apart
         let lines = stages.lsp_cosines_to_freq(&coder.lines).unwrap();
         assert_eq!(stages.quantise_lsp_freq(&lines, &coder.set).unwrap().0, 2_524_349);
+    }
+
+    /// A frame of noise after a coder, over rows where some are lent.
+    fn answered(coder: &Coder, rows: Option<&[i16]>) -> Result<Vec<u32>, u32> {
+        let frame = memories(coder).shorts(&noise()).single(SPACING);
+        let answer = match rows {
+            None => code_frame(&rust(), frame.reader()),
+            Some(rows) => code_frame_in(&rust(), given().shorts(rows).numbers(&frame.0).reader()),
+        };
+        answer.map(|words| words.0)
+    }
+
+    #[test]
+    fn a_frame_is_coded_over_the_rows_that_are_lent() {
+        let mut coder = started();
+        assert_eq!(answered(&coder, Some(built_in())), answered(&coder, None));
+        assert_ne!(answered(&coder, Some(worked())), answered(&coder, None));
+        assert_eq!(answered(&coder, Some(&built_in()[1..])), Err(1));
+        // rows that no load passes can bring a set to where the next stage refuses it
+        coder.set = [65_536.0; 10];
+        assert!(answered(&coder, Some(&[8_192; 2_560])).is_ok());
+        assert_eq!(answered(&coder, Some(&[32_767; 2_560])), Err(6));
     }
 }

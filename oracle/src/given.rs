@@ -34,7 +34,7 @@ pub fn parse(text: &str) -> Result<(&'static Operation, Vec<u32>), String> {
         let (word, times) =
             repeated(text).ok_or(format!("{text} is not a word of 8 hexadecimal digits, as 3f800000"))?;
         // No input is nearly as long: a slip of the pen is not to fill the memory.
-        if times > 100_000 {
+        if times > 1_000_000 {
             return Err(format!("{text} is too long"));
         }
         given.extend(std::iter::repeat_n(word, times));

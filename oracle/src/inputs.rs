@@ -3,6 +3,7 @@
 
 use crate::random::Random;
 use crate::shape::{joined, word, Field, Kind, Parts};
+use std::ops::Range;
 use std::sync::OnceLock;
 
 /// Singles at and next to every bound, with both signs.
@@ -103,19 +104,28 @@ const WORD_LIMITS: [u64; 40] = [
     0xffff_ffff_ffff_ffff,
 ];
 
-/// Samples of 16 bits at and next to every bound.
+/// Numbers of 16 bits at and next to every bound.
 const SHORT_LIMITS: [u32; 12] = [0x8000, 0x8001, 0xbfff, 0xc000, 0xff00, 0xffff, 0, 1, 0x00ff, 0x0100, 0x7ffe, 0x7fff];
 
-/// How a list of samples can be of another length, as singles and as 16 bits.
+/// How a list can be of another length: samples as singles and as 16 bits, code rows, and the bytes of their file.
 const LENGTHS: [usize; 14] = [0, 1, 59, 60, 61, 144, 179, 180, 181, 204, 205, 264, 265, 384];
 const SHORT_LENGTHS: [usize; 8] = [0, 1, 180, 240, 359, 360, 361, 480];
+const ROW_LENGTHS: [usize; 9] = [0, 1, 768, 1536, 2559, 2560, 2561, 4096, 5120];
+const BYTE_LENGTHS: [usize; 12] = [0, 1, 7, 8, 5120, 5127, 5128, 5129, 32_767, 32_768, 32_769, 65_535];
 
 fn lengths(field: &Field) -> &'static [usize] {
-    if field.is_short() {
-        &SHORT_LENGTHS
-    } else {
-        &LENGTHS
+    match field.kind {
+        Kind::ByteList => &BYTE_LENGTHS,
+        Kind::Places => &ROW_LENGTHS,
+        Kind::Shorts if field.role == "code rows" => &ROW_LENGTHS,
+        Kind::Shorts => &SHORT_LENGTHS,
+        _ => &LENGTHS,
     }
+}
+
+/// Whether a field is a whole number of its own, and not how many places there are.
+fn is_number(field: &Field) -> bool {
+    field.is_whole() && !field.is_places()
 }
 
 /// Where the inputs of one door come from.
@@ -151,12 +161,12 @@ impl Source {
         self.limit_phases().iter().sum()
     }
 
-    /// How many turns put limits into singles, into whole numbers, into samples of 16 bits and into lengths.
+    /// How many turns put limits into singles, into whole numbers, into numbers of 16 bits and into lengths.
     fn limit_phases(&self) -> [u64; 4] {
         let of = |test: fn(&Field) -> bool| self.takes.iter().filter(|field| test(field)).count() as u64;
         [
             limits().len() as u64 * 11 * of(Field::is_single),
-            WORD_LIMITS.len() as u64 * 3 * of(Field::is_whole),
+            WORD_LIMITS.len() as u64 * 3 * of(is_number),
             SHORT_LIMITS.len() as u64 * 11 * of(Field::is_short),
             self.list_lengths().len() as u64 * 2,
         ]
@@ -164,7 +174,7 @@ impl Source {
 
     /// Each list with each length that it can be of.
     fn list_lengths(&self) -> Vec<(usize, usize)> {
-        let lists = self.takes.iter().enumerate().filter(|(_, field)| field.is_list());
+        let lists = self.takes.iter().enumerate().filter(|(_, field)| field.is_list() || field.is_places());
         lists.flat_map(|(at, field)| lengths(field).iter().map(move |length| (at, *length))).collect()
     }
 
@@ -182,14 +192,19 @@ impl Source {
             set_limit(&mut parts[self.field_of(Field::is_single, round)], limit, round + turn, random);
         } else if turn < singles + scalars {
             let (limit, round) = in_turn(&WORD_LIMITS, turn - singles);
-            let at = self.field_of(Field::is_whole, round);
+            let at = self.field_of(is_number, round);
             parts[at] = scalar(&self.takes[at], limit);
         } else if turn < singles + scalars + shorts {
             let (limit, round) = in_turn(&SHORT_LIMITS, turn - singles - scalars);
             set_limit(&mut parts[self.field_of(Field::is_short, round)], limit, round + turn, random);
         } else {
             let ((at, length), _) = in_turn(&self.list_lengths(), turn - singles - scalars - shorts);
-            parts[at].resize(length, if self.takes[at].is_short() { 0x3f00 } else { 0x3f00_0000 });
+            match &self.takes[at] {
+                field if field.is_places() => parts[at] = vec![length as u32],
+                field if field.is_byte() => parts[at].resize(length, 0x3f),
+                field if field.is_short() => parts[at].resize(length, 0x3f00),
+                _ => parts[at].resize(length, 0x3f00_0000),
+            }
         }
         parts
     }
@@ -205,7 +220,11 @@ impl Source {
             let at = random.below(parts.len());
             let (field, part) = (&self.takes[at], &mut parts[at]);
             if field.is_short() {
-                damage_shorts(part, random);
+                damage_shorts(part, lengths(field), random);
+            } else if field.is_places() {
+                part[0] = *random.pick(lengths(field)) as u32;
+            } else if field.is_byte() && field.is_list() {
+                damage_bytes(part, lengths(field), random);
             } else if field.is_byte() {
                 let place = random.below(part.len());
                 part[place] = random.bits() >> 24;
@@ -231,8 +250,8 @@ impl Source {
         parts
     }
 
-    /// Every single, sample of 16 bits and byte of a likely input replaced by random bits: the singles any at all, or with
-    /// exponents in one band.
+    /// Every single, number of 16 bits and byte of a likely input replaced by random bits: the singles any at all, or with
+    /// exponents in one band; of a list of bytes some in a row.
     fn random_bits(&self, random: &mut Random) -> Parts {
         let mut parts = (self.likely)(random);
         let bands = [(0, 254), (0, 142), (100, 142), (100, 126), (120, 130), (0, 3)];
@@ -249,7 +268,8 @@ impl Source {
             } else if field.is_short() {
                 part.iter_mut().for_each(|word| *word = random.bits() >> 16);
             } else if field.is_byte() {
-                part.iter_mut().for_each(|word| *word = random.bits() >> 24);
+                let some = if field.is_list() { stretch(part.len(), random) } else { 0..part.len() };
+                part[some].iter_mut().for_each(|word| *word = random.bits() >> 24);
             }
         }
         parts
@@ -275,8 +295,25 @@ fn set_limit(part: &mut [u32], limit: u32, turn: u64, random: &mut Random) {
     }
 }
 
-/// A sample of 16 bits replaced by a limit, its neighbour, its opposite or any; now and then a list of another length.
-fn damage_shorts(part: &mut Vec<u32>, random: &mut Random) {
+/// At most 256 places of a list, from any on.
+fn stretch(length: usize, random: &mut Random) -> Range<usize> {
+    let start = random.below(length + 1);
+    start..length.min(start + random.below(257))
+}
+
+/// A byte anywhere or among the last replaced by another, with a bit turned or any; now and then a list of another length.
+fn damage_bytes(part: &mut Vec<u32>, lengths: &[usize], random: &mut Random) {
+    let Some(last) = part.len().checked_sub(1) else { return };
+    let back = *random.pick(&[part.len(), part.len().min(16)]);
+    let place = last - random.below(back);
+    part[place] = if random.once_in(2) { part[place] ^ 1 << random.below(8) } else { random.bits() >> 24 };
+    if random.once_in(8) {
+        part.resize(*random.pick(lengths), 0);
+    }
+}
+
+/// A number of 16 bits replaced by a limit, its neighbour, its opposite or any; now and then a list of another length.
+fn damage_shorts(part: &mut Vec<u32>, lengths: &[usize], random: &mut Random) {
     let Some(last) = part.len().checked_sub(1) else { return };
     let place = random.below(last + 1);
     let old = part[place];
@@ -287,7 +324,7 @@ fn damage_shorts(part: &mut Vec<u32>, random: &mut Random) {
         _ => random.bits() >> 16,
     };
     if random.once_in(8) {
-        part.resize(*random.pick(&SHORT_LENGTHS), old);
+        part.resize(*random.pick(lengths), old);
     }
 }
 

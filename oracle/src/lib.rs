@@ -3,13 +3,15 @@
 //! `shape` says what words an input and an answer have; `inputs` draws them, from what is `likely` and what is `special`,
 //! and `doors` calls the library. `rule` is document 01's cosine, step, angle and gate rules; `reference` adds its
 //! refusals to the Rust's functions. `chain` is a frame as request E2 has it, over any stages, and `frame` is it over
-//! those. `operations` ties these together, `trial` holds a door's answer to the Rust's, `runner` does so turn by turn on
-//! several threads, and `shrink` makes an input that shows a fault plain. build.rs cuts the Rust out of its source; where
-//! that is missing nothing is compared.
+//! those. `own_rows` is the Rust over the code rows of request E5, and `row_file` a model of their file. `operations` ties
+//! these together, `trial` holds a door's answer to the Rust's, `runner` does so turn by turn on several threads, and
+//! `shrink` makes an input that shows a fault plain. build.rs cuts the Rust out of its source; where that is missing
+//! nothing is compared.
 
 pub mod args;
 pub mod both;
 pub mod chain;
+pub mod code_rows;
 pub mod distances;
 pub mod doors;
 pub mod frame;
@@ -21,15 +23,19 @@ pub mod likely;
 pub mod line_coder;
 pub mod makers;
 pub mod operations;
+#[cfg(rust)]
+pub mod own_rows;
 pub mod progress;
 pub mod random;
 pub mod reference;
+pub mod row_file;
 pub mod rule;
 pub mod runner;
 pub mod shape;
 pub mod shrink;
 pub mod sources;
 pub mod special;
+pub mod special_rows;
 pub mod speech;
 #[cfg(rust)]
 pub mod ties;

@@ -1,9 +1,11 @@
 //! A likely input of each operation.
 
 use crate::chain::SPAN;
+use crate::code_rows;
 use crate::makers::*;
 use crate::random::Random;
-use crate::shape::{bits, shorts, word, Parts};
+use crate::row_file::NUMBERS;
+use crate::shape::{bits, octets, shorts, word, Parts};
 
 pub fn lpc_analysis(random: &mut Random) -> Parts {
     vec![bits(&signal(random, 180))]
@@ -105,4 +107,31 @@ pub fn code_frame(random: &mut Random) -> Parts {
     let (set, lines) = (bits(&decoded(random)), bits(&cosines(random)));
     let [x_mem, f_mem, weighted] = [10, 10, 145].map(|n| short_memory(random, n));
     vec![set, lines, x_mem, f_mem, weighted, shorts(&short_signal(random, SPAN)), spacing(random)]
+}
+
+pub fn load_rows(random: &mut Random) -> Parts {
+    vec![octets(&code_rows::file(random)), vec![NUMBERS as u32]]
+}
+
+pub fn row(random: &mut Random) -> Parts {
+    let rows = code_rows::lent(random);
+    vec![shorts(&rows), vec![random.below(3) as u32], vec![random.bits() >> 24]]
+}
+
+pub fn quantise_lsp_freq_in(random: &mut Random) -> Parts {
+    let rows = code_rows::lent(random);
+    vec![shorts(&rows), bits(&ordered(random)), bits(&decoded_over(&rows, random))]
+}
+
+pub fn decode_lsp_freq_in(random: &mut Random) -> Parts {
+    let rows = code_rows::lent(random);
+    vec![shorts(&rows), index(random), bits(&decoded_over(&rows, random))]
+}
+
+pub fn code_frame_in(random: &mut Random) -> Parts {
+    let rows = code_rows::lent(random);
+    let mut parts = code_frame(random);
+    parts[0] = bits(&decoded_over(&rows, random));
+    parts.insert(0, shorts(&rows));
+    parts
 }

@@ -1,5 +1,6 @@
 //! What inputs are made of: line sets, cosines, filters and their taps, signals, lags.
 
+use crate::code_rows::built_in;
 use crate::random::Random;
 use crate::shape::bits;
 use crate::speech::piece;
@@ -28,16 +29,24 @@ pub fn ordered(random: &mut Random) -> [f32; 10] {
 
 /// A set that the line could have arrived at.
 pub fn decoded(random: &mut Random) -> [f32; 10] {
+    decoded_over(built_in(), random)
+}
+
+/// The same over other rows.
+pub fn decoded_over(rows: &[i16], random: &mut Random) -> [f32; 10] {
     #[cfg(rust)]
     {
         let mut set = resting();
         for _ in 0..random.below(4) {
-            set = crate::published::spec_lsp::decode_lsp_freq(random.bits(), &set);
+            set = crate::own_rows::decode_lsp_freq(rows, random.bits(), &set);
         }
         set
     }
     #[cfg(not(rust))]
-    ordered(random)
+    {
+        let _ = rows;
+        ordered(random)
+    }
 }
 
 /// Ten cosines that fall.

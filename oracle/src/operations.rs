@@ -1,5 +1,5 @@
-//! The fifteen operations of document 01, the two of request E2 and the two of request E4: each ties a door to the Rust's
-//! answer and to its inputs.
+//! The fifteen operations of document 01, the two of request E2, the two of request E4 and the five of request E5: each ties a door
+//! to the Rust's answer and to its inputs.
 //!
 //! What a door takes and gives is the header's to say. Here stands what the header cannot say.
 
@@ -10,21 +10,26 @@ use crate::inputs::Source;
 use crate::likely;
 use crate::random::Random;
 use crate::reference::{Answer, Rust};
-use crate::shape::{split, Field, Kind};
-use crate::special;
+use crate::shape::{joined, split, Field, Kind};
 use crate::words::Reader;
 use std::sync::LazyLock;
 
-/// The Rust's answer of each: its own function's, or the chain's of a frame.
+/// The Rust's answer of each: its own function's, the chain's of a frame, or a model's where it has none.
 mod answers {
     pub use crate::frame::*;
     pub use crate::reference::*;
 }
 
+/// What is special to each.
+mod special {
+    pub use crate::special::*;
+    pub use crate::special_rows::*;
+}
+
 type Measure = fn(&Seen, &mut Distances);
 
 pub struct Operation {
-    /// From 1: its place in document 01, and then those of requests E2 and E4.
+    /// From 1: its place in document 01, and then those of requests E2, E4 and E5.
     pub number: u32,
     pub name: &'static str,
     pub door: &'static Door,
@@ -51,7 +56,8 @@ macro_rules! operations {
     }};
 }
 
-/// In document 01's order, and last those of requests E2 and E4: the distance to the published Rust, and how many answers are stored.
+/// In document 01's order, and last those of requests E2, E4 and E5: the distance to the published Rust, and how many answers are
+/// stored. None are of request E5's, whose inputs have thousands of words.
 pub static OPERATIONS: LazyLock<Vec<Operation>> = LazyLock::new(|| {
     operations! {
         lpc_analysis: None, 80;
@@ -73,6 +79,11 @@ pub static OPERATIONS: LazyLock<Vec<Operation>> = LazyLock::new(|| {
         code_frame: Some(distances::frame), 40;
         split_lsp_index: None, 200;
         combine_lsp_index: None, 100;
+        load_rows: None, 0;
+        row: None, 0;
+        quantise_lsp_freq_in: None, 0;
+        decode_lsp_freq_in: None, 0;
+        code_frame_in: Some(distances::frame), 0;
     }
 });
 
@@ -106,7 +117,7 @@ impl Operation {
         Frame::new(self.door, &self.parts(given), random)
     }
 
-    /// The whole answer in words: status, then the results. A refusal gives zeros, and memories as they were.
+    /// The whole answer in words: status, then the results. A refusal gives zeros, lists of none, and memories as they were.
     pub fn whole_answer(&self, rust: &Rust, given: &[u32]) -> (u32, Vec<u32>) {
         match (self.answer)(rust, Reader::new(given)) {
             Ok(words) => (0, words.0),
@@ -114,22 +125,28 @@ impl Operation {
                 let parts = self.parts(given);
                 let lent = |name| Some(parts[self.takes().iter().position(|field| field.name == name)?].to_vec());
                 let each = self.gives.iter().map(|field| lent(field.name).unwrap_or(vec![0; field.kind.words()]));
-                (status, each.collect::<Vec<_>>().concat())
+                (status, joined(&self.gives, &each.collect()))
             }
         }
     }
 
+    /// The parts of results, one a field.
+    pub fn results<'a>(&self, words: &'a [u32]) -> Vec<&'a [u32]> {
+        split(&self.gives, words).unwrap_or_else(|why| panic!("{}: {why}", self.name))
+    }
+
     /// Whether two results are the same, every NaN counting as one value.
     pub fn same(&self, one: &[u32], other: &[u32]) -> bool {
-        self.plain(one) == self.plain(other)
+        one == other || self.plain(one) == self.plain(other)
     }
 
     /// Results with one pattern for every NaN.
     pub fn plain(&self, words: &[u32]) -> Vec<u32> {
-        let mut reader = Reader::new(words);
         let mut all = Vec::with_capacity(words.len());
-        for field in &self.gives {
-            let own = reader.words(field.kind.words());
+        for (field, own) in self.gives.iter().zip(self.results(words)) {
+            if field.is_list() {
+                all.push(own.len() as u32);
+            }
             match field.kind {
                 Kind::Doubles(_) => {
                     for pair in own.chunks(2) {

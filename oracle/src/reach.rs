@@ -3,6 +3,7 @@
 
 use super::super::spec_lsp;
 use super::*;
+use crate::own_rows;
 use crate::reference::Rust;
 
 pub const RUST: Rust = Rust {
@@ -15,6 +16,8 @@ pub const RUST: Rust = Rust {
     lsp_freq_to_cosines: spec_lsp::lsp_freq_to_cosines,
     quantise_lsp_freq: spec_lsp::quantise_lsp_freq,
     decode_lsp_freq: spec_lsp::decode_lsp_freq,
+    quantise_lsp_freq_in: own_rows::quantise_lsp_freq,
+    decode_lsp_freq_in: own_rows::decode_lsp_freq,
     split_lsp_index: spec_lsp::split_lsp_index,
     combine_lsp_index: spec_lsp::combine_lsp_index,
     enforce_lsp_stability,

@@ -1,8 +1,9 @@
-//! The fifteen operations as document 01 has them, and the splitting and combining of an index as request E4 has them: the
-//! refusals, in their order, and then the Rust's function.
+//! The fifteen operations as document 01 has them, the splitting and combining of an index as request E4 has them, and those over
+//! code rows as request E5 has them: the refusals, in their order, and then the Rust's function, or `row_file` where it has none.
 //!
 //! Each takes the words of its input and answers the words of its result, or the number of its refusal.
 
+use crate::row_file::{self, NUMBERS};
 use crate::words::{Reader, Words};
 
 type Ten = [f32; 10];
@@ -26,6 +27,9 @@ pub struct Rust {
     pub lsp_freq_to_cosines: fn(&Ten) -> Ten,
     pub quantise_lsp_freq: fn(&Ten, &Ten) -> (u32, Ten),
     pub decode_lsp_freq: fn(u32, &Ten) -> Ten,
+    /// These two over lent rows.
+    pub quantise_lsp_freq_in: fn(&[i16], &Ten, &Ten) -> (u32, Ten),
+    pub decode_lsp_freq_in: fn(&[i16], u32, &Ten) -> Ten,
     pub split_lsp_index: fn(u32) -> [u8; 3],
     pub combine_lsp_index: fn([u8; 3]) -> u32,
     pub enforce_lsp_stability: fn(&Ten, f32) -> (Ten, bool),
@@ -49,6 +53,8 @@ const NOT_FINITE: u32 = 5;
 const MAGNITUDE: u32 = 6;
 const NO_LINE_SET: u32 = 7;
 const INDEX: u32 = 9;
+const ROW_FILE: u32 = 10;
+const ROW_NUMBER: u32 = 11;
 
 fn refuse(status: u32, when: bool) -> Result<(), u32> {
     if when {
@@ -99,20 +105,62 @@ pub fn lsp_freq_to_cosines(rust: &Rust, mut given: Reader) -> Answer {
     Ok(Words::default().singles(&(rust.lsp_freq_to_cosines)(&freq)))
 }
 
-pub fn quantise_lsp_freq(rust: &Rust, mut given: Reader) -> Answer {
+fn quantised(mut given: Reader, quantise: impl Fn(&Ten, &Ten) -> (u32, Ten)) -> Answer {
     let (p, prev) = (given.singles(), given.singles());
     finite(&[&p, &prev])?;
     in_magnitude(&[&p, &prev])?;
-    let (index, set) = (rust.quantise_lsp_freq)(&p, &prev);
+    let (index, set) = quantise(&p, &prev);
     Ok(Words::default().number(index).singles(&set))
 }
 
-pub fn decode_lsp_freq(rust: &Rust, mut given: Reader) -> Answer {
+pub fn quantise_lsp_freq(rust: &Rust, given: Reader) -> Answer {
+    quantised(given, rust.quantise_lsp_freq)
+}
+
+fn decoded(mut given: Reader, decode: impl Fn(u32, &Ten) -> Ten) -> Answer {
     let (index, prev) = (given.number(), given.singles());
     in_24_bits(index)?;
     finite(&[&prev])?;
     in_magnitude(&[&prev])?;
-    Ok(Words::default().singles(&(rust.decode_lsp_freq)(index, &prev)))
+    Ok(Words::default().singles(&decode(index, &prev)))
+}
+
+pub fn decode_lsp_freq(rust: &Rust, given: Reader) -> Answer {
+    decoded(given, rust.decode_lsp_freq)
+}
+
+/// Rows that are lent: their number alone is looked at, before anything else.
+pub fn lent_rows(given: &mut Reader) -> Result<Vec<i16>, u32> {
+    let rows = given.shorts();
+    refuse(LENGTH, rows.len() != NUMBERS)?;
+    Ok(rows)
+}
+
+pub fn quantise_lsp_freq_in(rust: &Rust, mut given: Reader) -> Answer {
+    let rows = lent_rows(&mut given)?;
+    quantised(given, |p, prev| (rust.quantise_lsp_freq_in)(&rows, p, prev))
+}
+
+pub fn decode_lsp_freq_in(rust: &Rust, mut given: Reader) -> Answer {
+    let rows = lent_rows(&mut given)?;
+    decoded(given, |index, prev| (rust.decode_lsp_freq_in)(&rows, index, prev))
+}
+
+pub fn load_rows(_: &Rust, mut given: Reader) -> Answer {
+    let (file, places) = (given.byte_list(), given.number());
+    refuse(LENGTH, places as usize != NUMBERS)?;
+    refuse(ROW_FILE, !row_file::is_one(&file))?;
+    let rows = row_file::numbers(&file);
+    refuse(ROW_NUMBER, !row_file::pass(&rows))?;
+    Ok(Words::default().shorts(&rows))
+}
+
+pub fn row(_: &Rust, mut given: Reader) -> Answer {
+    lent_rows(&mut given)?;
+    let (band, index) = (given.number(), given.number());
+    refuse(CHOICE, band > 2 || index > 255)?;
+    let (start, count) = row_file::place(band as usize, index as usize);
+    Ok(Words::default().word(start).word(count))
 }
 
 pub fn split_lsp_index(rust: &Rust, mut given: Reader) -> Answer {

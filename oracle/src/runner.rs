@@ -120,7 +120,7 @@ mod tests {
         tally.refused += u64::from(random.once_in(3));
         let what = if random.once_in(50) { "rare" } else { "common" };
         tally.distances.seen(what, None, distance, &[turn as u32]);
-        tally.distances.count("odd", distance % 2.0 == 1.0, &[turn as u32]);
+        tally.distances.count("odd", distance % 2.0 == 1.0, turn, &[turn as u32]);
         // An early chunk that takes longer than those after it.
         if turn == 100 {
             thread::sleep(Duration::from_millis(30));
@@ -138,7 +138,7 @@ mod tests {
             text += &format!(" {} {} {:?}", distance.what, distance.largest, distance.shown_by);
         }
         for count in tally.distances.counts {
-            text += &format!(" {} {} {:?}", count.what, count.times, count.shown_by);
+            text += &format!(" {} {} {} {:?}", count.what, count.times, count.turn, count.shown_by);
         }
         text
     }

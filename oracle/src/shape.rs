@@ -1,7 +1,8 @@
 //! What stands in an input and in an answer: a list of fields, each so many 32-bit words.
 //!
 //! A single is its bits. A double and a machine word (a length, place, half or choice) are two words, high then low.
-//! A list of samples is its length and then its singles, or the 16 bits of each sample in a word. A byte is a word too.
+//! A list is its length and then its singles, or the 16 bits of each number in a word, or each byte in a word; so are bytes
+//! that are no list. Of a list that is only written the input has the length alone, and the answer the list.
 
 /// What stands in a field.
 #[derive(Clone, Copy)]
@@ -14,8 +15,12 @@ pub enum Kind {
     Doubles(usize),
     /// A length and as many singles.
     Samples,
-    /// A length and as many samples of 16 bits, signed.
+    /// A length and as many numbers of 16 bits, signed: samples, or those of code rows.
     Shorts,
+    /// A length and as many bytes, one a word.
+    ByteList,
+    /// How many places a list has that is only written.
+    Places,
     /// 32 bits.
     Number,
     /// So many of them, lent.
@@ -32,9 +37,9 @@ impl Kind {
         match self {
             Kind::Singles(n) | Kind::Numbers(n) | Kind::Bytes(n) => n,
             Kind::Doubles(n) => 2 * n,
-            Kind::Single | Kind::Number => 1,
+            Kind::Single | Kind::Number | Kind::Places => 1,
             Kind::Word => 2,
-            Kind::Samples | Kind::Shorts => 0,
+            Kind::Samples | Kind::Shorts | Kind::ByteList => 0,
         }
     }
 }
@@ -43,7 +48,7 @@ impl Kind {
 pub struct Field {
     pub name: &'static str,
     pub kind: Kind,
-    /// What a valid call has in it, in the header's word; none for an answer.
+    /// What a valid call has in it, in the header's word; none for an answer and for a length.
     pub role: &'static str,
 }
 
@@ -55,33 +60,38 @@ impl Field {
 
     /// Whether it is a whole number.
     pub fn is_whole(&self) -> bool {
-        matches!(self.kind, Kind::Number | Kind::Word)
+        matches!(self.kind, Kind::Number | Kind::Word | Kind::Places)
     }
 
-    /// Whether its words are samples of 16 bits.
+    /// Whether it is how many places a list has.
+    pub fn is_places(&self) -> bool {
+        matches!(self.kind, Kind::Places)
+    }
+
+    /// Whether its words are numbers of 16 bits.
     pub fn is_short(&self) -> bool {
         matches!(self.kind, Kind::Shorts)
     }
 
     /// Whether its words are bytes.
     pub fn is_byte(&self) -> bool {
-        matches!(self.kind, Kind::Bytes(_))
+        matches!(self.kind, Kind::Bytes(_) | Kind::ByteList)
     }
 
     /// Whether it has any length.
     pub fn is_list(&self) -> bool {
-        matches!(self.kind, Kind::Samples | Kind::Shorts)
+        matches!(self.kind, Kind::Samples | Kind::Shorts | Kind::ByteList)
     }
 }
 
-/// One list of words a field, so that any of them can be altered alone; of a list of samples the samples alone.
+/// One list of words a field, so that any of them can be altered alone; of a list its elements alone.
 pub type Parts = Vec<Vec<u32>>;
 
-/// The words of some parts: a list of samples gets its length in front. The parts must be those of the fields, so that an
+/// The words of some parts: a list gets its length in front. The parts must be those of the fields, so that an
 /// input that was drawn for another list of parameters is not taken for one of these.
 pub fn joined(fields: &[Field], parts: &Parts) -> Vec<u32> {
     assert_eq!(fields.len(), parts.len(), "as many parts as fields");
-    let mut words = Vec::new();
+    let mut words = Vec::with_capacity(parts.iter().map(|part| 1 + part.len()).sum());
     for (field, part) in fields.iter().zip(parts) {
         if field.is_list() {
             words.push(part.len() as u32);
@@ -123,9 +133,14 @@ pub fn bits(xs: &[f32]) -> Vec<u32> {
     xs.iter().map(|x| x.to_bits()).collect()
 }
 
-/// The words of samples of 16 bits.
+/// The words of numbers of 16 bits.
 pub fn shorts(xs: &[i16]) -> Vec<u32> {
     xs.iter().map(|x| u32::from(*x as u16)).collect()
+}
+
+/// The words of bytes.
+pub fn octets(bytes: &[u8]) -> Vec<u32> {
+    bytes.iter().map(|byte| u32::from(*byte)).collect()
 }
 
 /// The words of a machine word.

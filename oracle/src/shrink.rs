@@ -5,7 +5,8 @@
 
 use crate::makers;
 use crate::operations::Operation;
-use crate::shape::{bits, joined, shorts, word, Field, Parts};
+use crate::row_file::{image, NUMBERS};
+use crate::shape::{bits, joined, octets, shorts, word, Field, Parts};
 
 /// At most so many inputs are tried.
 const TRIALS: u64 = 20_000;
@@ -125,17 +126,23 @@ impl Search<'_> {
     fn plainer_piece(&mut self, at: usize, start: usize, end: usize) {
         let fills: &[u32] = if self.takes[at].is_single() { &[0, ONE] } else { &[0] };
         for fill in fills {
-            let mut parts = self.best.clone();
-            parts[at][start..end].fill(*fill);
-            if self.attempt(parts) {
+            if self.attempt_piece(at, start, &vec![*fill; end - start]) {
                 return;
             }
         }
-        let mut parts = self.best.clone();
-        for (i, word) in parts[at][start..end].iter_mut().enumerate() {
-            *word = self.rest(at, start + i);
+        let resting: Vec<u32> = (start..end).map(|i| self.rest(at, i)).collect();
+        self.attempt_piece(at, start, &resting);
+    }
+
+    /// Tries other words in a place of a field. Words that stand there already are no other input: a long list has many such.
+    fn attempt_piece(&mut self, at: usize, start: usize, piece: &[u32]) -> bool {
+        let place = start..start + piece.len();
+        if self.best[at][place.clone()] == *piece {
+            return false;
         }
-        self.attempt(parts);
+        let mut parts = self.best.clone();
+        parts[at][place].copy_from_slice(piece);
+        self.attempt(parts)
     }
 
     /// Words with fewer digits, without their sign, or between 1 and 2; smaller numbers.
@@ -155,11 +162,7 @@ impl Search<'_> {
                 _ => plainer_singles,
             };
             for i in 0..self.best[at].len() {
-                while plainer(self.best[at][i]).into_iter().any(|word| {
-                    let mut parts = self.best.clone();
-                    parts[at][i] = word;
-                    self.attempt(parts)
-                }) {}
+                while plainer(self.best[at][i]).into_iter().any(|word| self.attempt_piece(at, i, &[word])) {}
             }
         }
     }
@@ -212,7 +215,7 @@ fn plainer_numbers(n: u64) -> Vec<u64> {
     vec![n >> 32, n >> 16, n >> 4, n >> 1, n.saturating_sub(10), n.saturating_sub(1)]
 }
 
-/// Values that nothing refuses: the resting set as frequencies, a bare filter, the smallest lag and place.
+/// Values that nothing refuses: the resting set as frequencies, a bare filter, the smallest lag and place, a file of zeros.
 fn resting(operation: &Operation) -> Parts {
     let of = |field: &Field| match field.role {
         "frequencies" => bits(&makers::resting()),
@@ -220,6 +223,8 @@ fn resting(operation: &Operation) -> Parts {
         "spacing" => bits(&[31.25]),
         "lag" | "pitch lag" => vec![18],
         "place" => word(145),
+        "row file" => octets(&image(&[], &[0; NUMBERS])),
+        _ if field.is_places() => vec![NUMBERS as u32],
         _ => vec![0; field.kind.words()],
     };
     operation.takes().iter().map(of).collect()
@@ -230,7 +235,9 @@ mod tests {
     use super::*;
     use crate::operations::named;
     use crate::random::Random;
+    use crate::row_file::is_one;
     use crate::trial::spoils;
+    use crate::words::Reader;
 
     /// The first drawn input that a predicate holds for, made smaller.
     fn smallest(name: &str, faulty: &mut dyn FnMut(&[u32]) -> bool) -> Vec<u32> {
@@ -244,10 +251,15 @@ mod tests {
         smallest.given
     }
 
+    /// The plainest input that a planted fault shows on.
+    fn smallest_spoilt(name: &str) -> Vec<u32> {
+        smallest(name, &mut |given| spoils(named(name).unwrap(), given))
+    }
+
     #[test]
     fn two_words_below_zero_are_all_that_is_left() {
         for name in ["lsp_to_lpc", "run_combined", "weighting_taps", "interpolate_lsp"] {
-            let given = smallest(name, &mut spoils);
+            let given = smallest_spoilt(name);
             let left: Vec<u32> = given.into_iter().filter(|word| *word != 0).collect();
             assert_eq!(left, [0xbf80_0000; 2], "{name}");
         }
@@ -261,8 +273,18 @@ mod tests {
 
     #[test]
     fn bytes_stay_bytes() {
-        assert_eq!(smallest("combine_lsp_index", &mut spoils), [101; 3]);
-        assert_eq!(smallest("split_lsp_index", &mut spoils), [101]);
+        assert_eq!(smallest_spoilt("combine_lsp_index"), [101; 3]);
+        assert_eq!(smallest_spoilt("split_lsp_index"), [101]);
+    }
+
+    /// A file that a load takes loses its notes, and its numbers turn to zeros.
+    #[test]
+    fn files_stay_files() {
+        let given = smallest("load_rows", &mut |given: &[u32]| {
+            let mut given = Reader::new(given);
+            is_one(&given.byte_list()) && given.number() == 2560
+        });
+        assert_eq!(Reader::new(&given).byte_list(), image(&[], &[0; NUMBERS]));
     }
 
     #[test]

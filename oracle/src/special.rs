@@ -1,5 +1,6 @@
 //! The inputs that are special to each operation; some go through a list in order, by the turn.
 
+use crate::code_rows::built_in;
 use crate::likely;
 use crate::makers::*;
 use crate::random::Random;
@@ -9,7 +10,7 @@ use std::f64::consts::PI;
 use std::sync::OnceLock;
 
 /// Frequencies that are refused: with 5, and with 6.
-const UNFIT: [u32; 5] = [0x7fc0_0000, 0x7f80_0000, 0xff80_0000, 0x4780_0001, 0xc788_b800];
+pub const UNFIT: [u32; 5] = [0x7fc0_0000, 0x7f80_0000, 0xff80_0000, 0x4780_0001, 0xc788_b800];
 
 /// Windows whose prediction error all but vanishes: tones, steps, alternation, one sample.
 pub fn lpc_analysis(random: &mut Random, _: u64) -> Parts {
@@ -116,12 +117,17 @@ pub fn lsp_freq_to_cosines(random: &mut Random, turn: u64) -> Parts {
 
 /// Sets at which two code rows are about as near.
 pub fn quantise_lsp_freq(random: &mut Random, turn: u64) -> Parts {
+    tied(built_in(), random, turn)
+}
+
+/// The same for other rows.
+pub fn tied(rows: &[i16], random: &mut Random, turn: u64) -> Parts {
     #[cfg(rust)]
-    return crate::ties::sets(random, turn);
+    return crate::ties::sets(rows, random, turn);
     #[cfg(not(rust))]
     {
-        // There are no rows to go through.
-        let _ = turn;
+        // There is nothing to go through rows with.
+        let _ = (rows, turn);
         likely::quantise_lsp_freq(random)
     }
 }

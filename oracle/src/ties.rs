@@ -1,22 +1,23 @@
-//! Line sets at which the search over the code rows is hard to get right. They are made from the Rust's own rows.
+//! Line sets at which the search over code rows is hard to get right. They are made from those rows.
 
-use crate::makers::{decoded, resting};
-use crate::published::spec_lsp::decode_lsp_freq;
+use crate::makers::{decoded_over, resting};
+use crate::own_rows::decode_lsp_freq;
 use crate::random::Random;
+use crate::row_file::place;
 use crate::shape::{bits, Parts};
-use crate::spec_tables::{lsp_codebook_entry, LspBand};
+use crate::spec_tables::LspBand;
 
 /// Sets that a row meets exactly, sets midway between two rows of each band, so that errors tie, and sets about as far
 /// from one row as from another, so that a single rounding decides.
-pub fn sets(random: &mut Random, turn: u64) -> Parts {
+pub fn sets(rows: &[i16], random: &mut Random, turn: u64) -> Parts {
     let dc = resting();
     if turn % 4 == 0 {
-        let prev = decoded(random);
-        let p = decode_lsp_freq(random.bits(), &prev);
+        let prev = decoded_over(rows, random);
+        let p = decode_lsp_freq(rows, random.bits(), &prev);
         return vec![bits(&p), bits(&prev)];
     }
     let mut p = dc;
-    let neighbours = LspBand::ALL.map(|band| neighbours(random, band));
+    let neighbours = LspBand::ALL.map(|band| neighbours(rows, random, band));
     for (band, (row, near)) in LspBand::ALL.into_iter().zip(neighbours) {
         let (start, length) = band.start_and_length();
         for j in 0..length {
@@ -31,11 +32,14 @@ pub fn sets(random: &mut Random, turn: u64) -> Parts {
 }
 
 /// A row of a band and the nearest other one.
-fn neighbours(random: &mut Random, band: LspBand) -> (&'static [i16], &'static [i16]) {
-    let rows = || (0..=255).map(|i| lsp_codebook_entry(band, i));
-    let row = lsp_codebook_entry(band, random.bits() as u8);
+fn neighbours<'a>(rows: &'a [i16], random: &mut Random, band: LspBand) -> (&'a [i16], &'a [i16]) {
+    let entry = |index: u8| {
+        let (start, count) = place(band as usize, index.into());
+        &rows[start..start + count]
+    };
+    let row = entry(random.bits() as u8);
     let far = |other: &[i16]| -> i64 { row.iter().zip(other).map(|(a, b)| (*a as i64 - *b as i64).pow(2)).sum() };
-    (row, rows().filter(|other| far(other) > 0).min_by_key(|other| far(other)).unwrap_or(row))
+    (row, (0..=255).map(entry).filter(|other| far(other) > 0).min_by_key(|other| far(other)).unwrap_or(row))
 }
 
 /// Moves a set off the midpoint of two rows of a band to where its weighted errors are about the same, but no longer

@@ -1,6 +1,6 @@
 //! Reads and writes the words of inputs and answers, as `shape` has them.
 
-use crate::shape::word;
+use crate::shape::{octets, shorts, word};
 
 /// Reads words in order; an input is made by this package, so running out of it is a fault of its own.
 pub struct Reader<'a> {
@@ -40,6 +40,11 @@ impl<'a> Reader<'a> {
         self.words(length).iter().map(|word| *word as i16).collect()
     }
 
+    pub fn byte_list(&mut self) -> Vec<u8> {
+        let length = self.number() as usize;
+        self.words(length).iter().map(|word| *word as u8).collect()
+    }
+
     pub fn bytes<const N: usize>(&mut self) -> [u8; N] {
         let words = self.words(N);
         std::array::from_fn(|i| words[i] as u8)
@@ -72,9 +77,8 @@ impl Words {
     }
 
     /// Bytes, one a word.
-    pub fn bytes(mut self, bytes: &[u8]) -> Words {
-        self.0.extend(bytes.iter().map(|byte| u32::from(*byte)));
-        self
+    pub fn bytes(self, bytes: &[u8]) -> Words {
+        self.numbers(&octets(bytes))
     }
 
     pub fn word(self, n: usize) -> Words {
@@ -93,6 +97,11 @@ impl Words {
     /// A list of samples, its length first.
     pub fn samples(self, xs: &[f32]) -> Words {
         self.number(xs.len() as u32).singles(xs)
+    }
+
+    /// A list of numbers of 16 bits, its length first.
+    pub fn shorts(self, xs: &[i16]) -> Words {
+        self.number(xs.len() as u32).numbers(&shorts(xs))
     }
 
     pub fn doubles(mut self, xs: &[f64]) -> Words {

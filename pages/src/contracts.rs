@@ -12,8 +12,8 @@ use std::process::Command;
 mod tests;
 
 pub const PAGE: &str = "docs/TRUST.md";
-/// The crates that export doors.
-const EXPORTING: [&str; 2] = ["crates/c_api/", "crates/c_api_frame/"];
+/// How the paths of the crates that export doors begin.
+const EXPORTING: &str = "crates/c_api";
 const LENT: &str = "crates/c_api/specs/Lent.antt#lent";
 /// What a door may make of a part that C has in another form.
 const FORMS: [&str; 3] = [
@@ -62,7 +62,9 @@ pub struct Said {
 /// Holds each operation to the page, and each door of the table to its operation.
 pub fn check(page: &str, table: &str, texts: &BTreeMap<String, String>) -> Said {
     let (mut faults, mut operations, mut sources) = (Vec::new(), BTreeMap::new(), Vec::new());
-    for (path, text) in texts {
+    // nobody calls a program's functions, whatever their names
+    let programs: Vec<&str> = texts.keys().filter_map(|path| path.strip_suffix("main.rt")).collect();
+    for (path, text) in texts.iter().filter(|(path, _)| !programs.iter().any(|one| path.starts_with(one))) {
         match functions(text) {
             Ok(functions) => sources.push(Source { path, functions, imports: imports(text) }),
             Err(what) => faults.push(format!("{path}: {what}")),
@@ -159,17 +161,18 @@ fn doors(table: &str) -> Vec<Door<'_>> {
     all
 }
 
-/// An operation that is as its row says: its function, and the right side of the equation for its answer.
+/// An operation that is as its row says: its function, and the right sides of its equations, for its answer and for what it
+/// is lent.
 struct Operation<'a> {
     function: &'a Function,
     answer: Vec<Term>,
+    lent: BTreeMap<String, Vec<Term>>,
 }
 
 /// A public function, by its name, and the names that its clauses may use.
 fn public<'a>(name: &str, sources: &'a [Source], doors: bool) -> Result<(&'a Function, Scope<'a>), String> {
     let mut found = Vec::new();
-    let exports = |path: &str| EXPORTING.iter().any(|one| path.starts_with(one));
-    for source in sources.iter().filter(|source| exports(source.path) == doors) {
+    for source in sources.iter().filter(|source| source.path.starts_with(EXPORTING) == doors) {
         found.extend(source.functions.iter().filter(|one| one.public && one.name == name).map(|one| (source, one)));
     }
     let [(source, function)] = found[..] else {
@@ -247,7 +250,12 @@ fn operation<'a>(row: &Row, sources: &'a [Source]) -> Result<Operation<'a>, Stri
         );
     }
     let answer = wanted.swap_remove(wanted.iter().position(|one| one.left == sides[0]).unwrap_or(0)).right;
-    Ok(Operation { function, answer })
+    let lent = function.parameters.iter().filter_map(|parameter| {
+        let one = wanted.iter().find(|one| one.left == [after(&parameter.name)])?;
+        Some((parameter.name.clone(), one.right.clone()))
+    });
+    let lent = lent.collect();
+    Ok(Operation { function, answer, lent })
 }
 
 /// Holds a door to its operation.
@@ -263,8 +271,28 @@ fn hold(door: &Door, name: &str, operation: &Operation, sources: &[Source]) -> R
         Some(at) => Ok(ensured.swap_remove(at).right),
         None => Err(format!("it ensures nothing of {}", words(&[side]))),
     };
-    let mut fitting = Fitting { operation, function, parts: BTreeMap::new() };
     let status = take(Term::word(RESULT))?;
+    if !operation.lent.is_empty() {
+        // the operation is lent the buffers itself: its door promises of each what it does
+        if status != operation.answer || status.last().and_then(field) != Some(".status") {
+            return Err(format!(
+                "its status is {}, where its operation's is {}",
+                words(&status),
+                words(&operation.answer)
+            ));
+        }
+        for name in &lent {
+            let held = take(after(name))?;
+            if operation.lent.get(*name) != Some(&held) {
+                return Err(format!("{name} afterwards is {}, which its operation does not ensure", words(&held)));
+            }
+        }
+        return match ensured.first() {
+            None => Ok(()),
+            Some(one) => Err(format!("it ensures besides that {} is {}", words(&one.left), named(&one.right))),
+        };
+    }
+    let mut fitting = Fitting { operation, function, parts: BTreeMap::new() };
     let right = match door.refuses {
         true => fitting.parts_of(&status).is_some_and(|parts| parts == [".status"]),
         false => status == [Term::word("0")],
@@ -340,8 +368,9 @@ impl Fitting<'_> {
                 let whole = self.operation.function.parameters.iter().any(|parameter| parameter.name == *name);
                 let built = match &inner[..] {
                     [Term::Word(by), rest @ ..] => {
-                        let own = |one: &&str| by.strip_prefix(*one).is_some_and(|file| file.starts_with("specs/"));
-                        EXPORTING.iter().any(|one| own(one)) && rest.iter().all(|one| word(one).is_some_and(door_has))
+                        let file = by.strip_prefix(EXPORTING).and_then(|of| of.split_once('/'));
+                        file.is_some_and(|(_, path)| path.starts_with("specs/"))
+                            && rest.iter().all(|one| word(one).is_some_and(door_has))
                     }
                     _ => false,
                 };

@@ -7,6 +7,8 @@ ghost use Rattle.c_api.specs.Lent.{lent};
 ghost use Rattle.frame.specs.Coder.{newCoder};
 ghost use Rattle.frame.specs.Frame.{codeFrame};
 ghost use Rattle.c_api_frame.specs.Frame.{coderOf, lags, factors};
+use frame::Coder;
+use frame::Frame;
 use pitch::HnsParams;
 
 #[no_mangle]
@@ -59,6 +61,83 @@ fn factors_of(settings: [HnsParams; 4]) -> [f32; 4]
     out
 }
 
+// A coder as a caller lends it, five buffers.
+pub fn coder_from(
+    set: &[f32; 10],
+    lines: &[f32; 10],
+    x_mem: &[f32; 10],
+    f_mem: &[f32; 10],
+    weighted: &[f32; 145],
+) -> Coder
+    ensures { λ r. ⌜ r ≡ coderOf (now (set .entry)) (now (lines .entry)) (now («x_mem» .entry)) (now («f_mem» .entry)) (now (weighted .entry)) ⌝ }
+{
+    let last_set = *set;
+    let last_lines = *lines;
+    let past_in = *x_mem;
+    let past_out = *f_mem;
+    let past = *weighted;
+    Coder {
+        set: last_set,
+        lines: last_lines,
+        x_mem: past_in,
+        f_mem: past_out,
+        weighted: past,
+    }
+}
+
+// What a door makes of a frame: where it is done each buffer takes its part, and else holds what it held.
+pub fn store_frame(
+    answer: Frame,
+    set: &mut [f32; 10],
+    lines: &mut [f32; 10],
+    x_mem: &mut [f32; 10],
+    f_mem: &mut [f32; 10],
+    weighted: &mut [f32; 145],
+    index: &mut u32,
+    pitch: &mut [u32; 2],
+    lag: &mut [u32; 4],
+    factor: &mut [f32; 4],
+    a: &mut [f32; 44],
+) -> u32
+    ensures status { λ r. ⌜ r ≡ answer .status ⌝ }
+    ensures decoded { λ r. ⌜ now (set .exit) ≡ lent r (now (set .entry)) (answer .coder .set) ⌝ }
+    ensures lines { λ r. ⌜ now (lines .exit) ≡ lent r (now (lines .entry)) (answer .coder .lines) ⌝ }
+    ensures inputs { λ r. ⌜ now («x_mem» .exit) ≡ lent r (now («x_mem» .entry)) (answer .coder .«x_mem») ⌝ }
+    ensures outputs { λ r. ⌜ now («f_mem» .exit) ≡ lent r (now («f_mem» .entry)) (answer .coder .«f_mem») ⌝ }
+    ensures speech { λ r. ⌜ now (weighted .exit) ≡ lent r (now (weighted .entry)) (answer .coder .weighted) ⌝ }
+    ensures index { λ r. ⌜ now (index .exit) ≡ lent r (now (index .entry)) (answer .index) ⌝ }
+    ensures pitch { λ r. ⌜ now (pitch .exit) ≡ lent r (now (pitch .entry)) (answer .pitch) ⌝ }
+    ensures lags { λ r. ⌜ now (lag .exit) ≡ lent r (now (lag .entry)) (lags (answer .shaping)) ⌝ }
+    ensures factors { λ r. ⌜ now (factor .exit) ≡ lent r (now (factor .entry)) (factors (answer .shaping)) ⌝ }
+    ensures filters { λ r. ⌜ now (a .exit) ≡ lent r (now (a .entry)) (answer .a) ⌝ }
+{
+    let refusal = answer.status;
+    if refusal == 0 {
+        let after = answer.coder;
+        let after_set = after.set;
+        let after_lines = after.lines;
+        let after_in = after.x_mem;
+        let after_out = after.f_mem;
+        let after_speech = after.weighted;
+        let halves = answer.pitch;
+        let shaping = answer.shaping;
+        let filters = answer.a;
+        *set = after_set;
+        *lines = after_lines;
+        *x_mem = after_in;
+        *f_mem = after_out;
+        *weighted = after_speech;
+        *index = answer.index;
+        *pitch = halves;
+        let lags = lags_of(shaping);
+        let factors = factors_of(shaping);
+        *lag = lags;
+        *factor = factors;
+        *a = filters;
+    }
+    refusal
+}
+
 #[no_mangle]
 pub extern "C" fn g7231_bare_code_frame(
     set: &mut [f32; 10],
@@ -86,42 +165,19 @@ pub extern "C" fn g7231_bare_code_frame(
     ensures factors { λ r. ⌜ now (factor .exit) ≡ lent r (now (factor .entry)) (factors (codeFrame lspRows (coderOf (now (set .entry)) (now (lines .entry)) (now («x_mem» .entry)) (now («f_mem» .entry)) (now (weighted .entry))) (now (samples .entry)) «spacing_hz» .shaping)) ⌝ }
     ensures filters { λ r. ⌜ now (a .exit) ≡ lent r (now (a .entry)) (codeFrame lspRows (coderOf (now (set .entry)) (now (lines .entry)) (now («x_mem» .entry)) (now («f_mem» .entry)) (now (weighted .entry))) (now (samples .entry)) «spacing_hz» .a) ⌝ }
 {
-    let last_set = *set;
-    let last_lines = *lines;
-    let past_in = *x_mem;
-    let past_out = *f_mem;
-    let past = *weighted;
-    let coder = frame::Coder {
-        set: last_set,
-        lines: last_lines,
-        x_mem: past_in,
-        f_mem: past_out,
-        weighted: past,
-    };
+    let coder = coder_from(set, lines, x_mem, f_mem, weighted);
     let answer = frame::code_frame(coder, samples, spacing_hz);
-    let refusal = answer.status;
-    if refusal == 0 {
-        let after = answer.coder;
-        let after_set = after.set;
-        let after_lines = after.lines;
-        let after_in = after.x_mem;
-        let after_out = after.f_mem;
-        let after_speech = after.weighted;
-        let halves = answer.pitch;
-        let shaping = answer.shaping;
-        let filters = answer.a;
-        *set = after_set;
-        *lines = after_lines;
-        *x_mem = after_in;
-        *f_mem = after_out;
-        *weighted = after_speech;
-        *index = answer.index;
-        *pitch = halves;
-        let lags = lags_of(shaping);
-        let factors = factors_of(shaping);
-        *lag = lags;
-        *factor = factors;
-        *a = filters;
-    }
-    refusal
+    store_frame(
+        answer,
+        set,
+        lines,
+        x_mem,
+        f_mem,
+        weighted,
+        index,
+        pitch,
+        lag,
+        factor,
+        a,
+    )
 }

@@ -3,6 +3,7 @@
 mod buffers;
 mod frames;
 mod lines;
+mod rows;
 mod samples;
 mod whole;
 
@@ -61,13 +62,22 @@ fn frame_doors(tally: Tally) -> Tally {
     door(t, b"code_frame", whole::code())
 }
 
+fn row_doors(tally: Tally) -> Tally {
+    let t = door(tally, b"load_rows", rows::load());
+    let t = door(t, b"row", rows::row());
+    let t = door(t, b"quantise_lsp_freq_in", rows::quantise());
+    let t = door(t, b"decode_lsp_freq_in", rows::decode());
+    door(t, b"code_frame_in", whole::code_in())
+}
+
 fn main() {
     let first = line_doors(Tally {
         passed: 0,
         failed: 0,
     });
     let second = sample_doors(first);
-    let tally = frame_doors(second);
+    let third = frame_doors(second);
+    let tally = row_doors(third);
     io::print_decimal(STDOUT_FILENO, tally.passed);
     io::write_all(STDOUT_FILENO, b" passed, ");
     io::print_decimal(STDOUT_FILENO, tally.failed);

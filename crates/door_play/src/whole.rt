@@ -30,9 +30,9 @@ fn memories() -> Coder {
 }
 
 // What stands in the lent buffers after a refused call: the memories as given, and marks.
-fn refusal(coder: Coder) -> Frame {
+fn refusal(status: u32, coder: Coder) -> Frame {
     Frame {
-        status: 8,
+        status,
         index: 77,
         pitch: [77; 2],
         shaping: [HnsParams {
@@ -76,6 +76,24 @@ fn shaping_is(shaping: [HnsParams; 4], lag: [u32; 4], factor: [f32; 4]) -> bool 
     first & second & third & fourth
 }
 
+// What a door answers of a frame beside the memories.
+fn answers_are(
+    want: Frame,
+    index: u32,
+    halves: [u32; 2],
+    lag: [u32; 4],
+    factor: [f32; 4],
+    a: [f32; 44],
+) -> bool {
+    let lags = want.pitch;
+    let shaping = want.shaping;
+    let filters = want.a;
+    let same_lags = (halves[0] == lags[0]) & (halves[1] == lags[1]);
+    let same_shaping = shaping_is(shaping, lag, factor);
+    let same_filters = buffers::filters(a, filters);
+    (index == want.index) & same_lags & same_shaping & same_filters
+}
+
 // The door on these memories and marked answers: afterwards all ten buffers are `want`'s, and so is the status.
 fn code_is(given: Coder, x: &[i16], want: Frame) -> bool {
     let mut set = given.set;
@@ -103,20 +121,47 @@ fn code_is(given: Coder, x: &[i16], want: Frame) -> bool {
         &mut a,
     );
     let after = want.coder;
-    let lags = want.pitch;
-    let shaping = want.shaping;
-    let filters = want.a;
-    let same_coder = memories_are(after, set, lines, x_mem, f_mem, weighted);
-    let same_lags = (halves[0] == lags[0]) & (halves[1] == lags[1]);
-    let same_shaping = shaping_is(shaping, lag, factor);
-    let same_filters = buffers::filters(a, filters);
-    let same_index = index == want.index;
-    (status == want.status) & same_coder & same_index & same_lags & same_shaping & same_filters
+    let same = memories_are(after, set, lines, x_mem, f_mem, weighted);
+    let answers = answers_are(want, index, halves, lag, factor, a);
+    (status == want.status) & same & answers
+}
+
+// The door over lent rows likewise.
+fn code_in_is(rows: &[i16], given: Coder, x: &[i16], want: Frame) -> bool {
+    let mut set = given.set;
+    let mut lines = given.lines;
+    let mut x_mem = given.x_mem;
+    let mut f_mem = given.f_mem;
+    let mut weighted = given.weighted;
+    let mut index = 77;
+    let mut halves = [77u32; 2];
+    let mut lag = [77u32; 4];
+    let mut factor = [buffers::MARK; 4];
+    let mut a = [buffers::MARK; 44];
+    let status = c_api_rows::g7231_bare_code_frame_in(
+        rows,
+        &mut set,
+        &mut lines,
+        &mut x_mem,
+        &mut f_mem,
+        &mut weighted,
+        x,
+        31.25,
+        &mut index,
+        &mut halves,
+        &mut lag,
+        &mut factor,
+        &mut a,
+    );
+    let after = want.coder;
+    let same = memories_are(after, set, lines, x_mem, f_mem, weighted);
+    let answers = answers_are(want, index, halves, lag, factor, a);
+    (status == want.status) & same & answers
 }
 
 fn code_refused(x: [i16; 360]) -> bool {
     let given = memories();
-    code_is(given, &x[0..359], refusal(given))
+    code_is(given, &x[0..359], refusal(8, given))
 }
 
 fn code_done(x: [i16; 360]) -> bool {
@@ -128,6 +173,29 @@ fn code_done(x: [i16; 360]) -> bool {
 pub fn code() -> bool {
     let refused = code_refused(samples());
     let done = code_done(samples());
+    refused & done
+}
+
+// Over rows of one number the frame has another index than over the built-in ones. With 2,559 numbers and 359 samples the rows refuse
+// it.
+fn code_in_refused(x: [i16; 360]) -> bool {
+    let given = memories();
+    let short = [500i16; 2559];
+    code_in_is(&short, given, &x[0..359], refusal(1, given))
+}
+
+fn code_in_done(x: [i16; 360]) -> bool {
+    let given = memories();
+    let rows = [500i16; 2560];
+    let want = own_rows::code_frame_in(&rows, given, &x, 31.25);
+    let same = code_in_is(&rows, given, &x, want);
+    let other = frame::code_frame(given, &x, 31.25);
+    same & (want.index != other.index)
+}
+
+pub fn code_in() -> bool {
+    let refused = code_in_refused(samples());
+    let done = code_in_done(samples());
     refused & done
 }
 

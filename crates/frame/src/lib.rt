@@ -1,14 +1,16 @@
 // One call a frame (request E2): the stages of document 01 in a chain. Every stage runs, on the zeros of a refused one, and the first
 // status that is not 0 refuses the frame.
 ghost use mathlib.Core.Path.{_≡_};
+ghost use lib.Dec.{eqb};
 ghost use lib.ListN.{length};
 ghost use Rattle.spec_tables.specs.Codebook.{lspRows};
 ghost use Rattle.frame.specs.Coder.{newCoder};
 ghost use Rattle.frame.specs.Windows.{windows};
-ghost use Rattle.frame.specs.Frame.{refusal, coded, codeFrame};
-ghost use Rattle.frame.specs.inner.Halves.{finished};
+ghost use Rattle.frame.specs.Frame.{refusal, codeFrame};
+ghost use Rattle.frame.specs.inner.Halves.{finished, ofLines};
 use frame_parts::Filters;
 use pitch::HnsParams;
+use spec_lsp::quantise::Quantised;
 use spec_lsp::resting;
 use spectrum::Spectrum;
 use voice::Voice;
@@ -80,7 +82,7 @@ fn windows_of(x: &[f32]) -> Filters
     }
 }
 
-fn refused(status: u32, coder: Coder) -> Frame
+pub fn refused(status: u32, coder: Coder) -> Frame
     ensures { λ r. ⌜ r ≡ refusal coder status ⌝ }
 {
     Frame {
@@ -122,18 +124,16 @@ fn finish(s: Spectrum, v: Voice) -> Frame
     }
 }
 
-fn code_singles(coder: Coder, x: &[f32], spacing_hz: f32) -> Frame
+// The frame of its windows and its quantised lines, after the memories of a coder.
+fn of_lines(coder: Coder, w: Filters, l: Quantised, x: &[f32], spacing_hz: f32) -> Frame
     requires { ⌜ length (now x) ≡ 360 ⌝ }
-    ensures { λ r. ⌜ r ≡ coded lspRows coder (now (x .entry)) «spacing_hz» ⌝ }
+    ensures { λ r. ⌜ r ≡ ofLines coder w l (now (x .entry)) «spacing_hz» ⌝ }
 {
-    let w = windows_of(x);
-    let a3 = w.a3;
-    let set = coder.set;
     let lines = coder.lines;
     let x_mem = coder.x_mem;
     let f_mem = coder.f_mem;
     let weighted = coder.weighted;
-    let s = spectrum::spectrum_of(set, lines, a3, spacing_hz);
+    let s = spectrum::spectrum_of(l, lines, spacing_hz);
     let v = voice::voice_of(x_mem, f_mem, weighted, w, x);
     let status = frame_parts::first_of(w.status, frame_parts::first_of(s.status, v.status));
     if status != 0 {
@@ -142,14 +142,43 @@ fn code_singles(coder: Coder, x: &[f32], spacing_hz: f32) -> Frame
     finish(s, v)
 }
 
-// One frame: 60 samples before it, its 240, 60 after it.
+// 60 samples before a frame, its 240, 60 after it.
+fn is_frame(samples: &[i16]) -> bool
+    ensures { λ r. ⌜ r ≡ eqb (length (now (samples .entry))) 360 ⌝ }
+{
+    samples.len() == 360
+}
+
+// One frame over the built-in rows. They are copied while the lines are looked for and are gone before the rest of the frame, which has
+// the stack to itself: so this is not `code_in` over a copy.
 pub fn code_frame(coder: Coder, samples: &[i16], spacing_hz: f32) -> Frame
     ensures { λ r. ⌜ r ≡ codeFrame lspRows coder (now (samples .entry)) «spacing_hz» ⌝ }
 {
-    if samples.len() != 360 {
+    if !is_frame(samples) {
         return refused(8, coder);
     }
     let mut x = [0.0f32; 360];
     frame_parts::to_singles(&mut x, samples);
-    code_singles(coder, &x, spacing_hz)
+    let w = windows_of(&x);
+    let a3 = w.a3;
+    let set = coder.set;
+    let l = spectrum::lines_of(a3, set);
+    of_lines(coder, w, l, &x, spacing_hz)
+}
+
+// The same over rows that the caller lends.
+pub fn code_in(rows: &[i16], coder: Coder, samples: &[i16], spacing_hz: f32) -> Frame
+    requires { ⌜ length (now rows) ≡ 2560 ⌝ }
+    ensures { λ r. ⌜ r ≡ codeFrame (now (rows .entry)) coder (now (samples .entry)) «spacing_hz» ⌝ }
+{
+    if !is_frame(samples) {
+        return refused(8, coder);
+    }
+    let mut x = [0.0f32; 360];
+    frame_parts::to_singles(&mut x, samples);
+    let w = windows_of(&x);
+    let a3 = w.a3;
+    let set = coder.set;
+    let l = spectrum::lines_in(rows, a3, set);
+    of_lines(coder, w, l, &x, spacing_hz)
 }

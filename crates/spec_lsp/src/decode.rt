@@ -1,7 +1,7 @@
 // The decoder of a line set (§2.6, steps 1 and 2): the previous set predicts, and the rows that the index names are added.
 ghost use mathlib.Core.Path.{_≡_};
 ghost use mathlib.Core.List.{_++_};
-ghost use lib.ListN.{take};
+ghost use lib.ListN.{length, take};
 ghost use Rattle.spec_tables.specs.Codebook.{lspRows};
 ghost use Rattle.float.specs.Refusal.{first};
 ghost use Rattle.spec_lsp.specs.Decode.{predicted, rebuilt, rowNumbers, decoded, decodeRefusals, decodeLspFreq};
@@ -30,7 +30,8 @@ fn joined(a: [i16; 4], b: [i16; 4], c: [i16; 4]) -> [i16; 10]
 }
 
 // The ten numbers of the three rows that an index names.
-fn row_numbers(rows: &[i16; 2560], index: u32) -> [i16; 10]
+fn row_numbers(rows: &[i16], index: u32) -> [i16; 10]
+    requires { ⌜ length (now rows) ≡ 2560 ⌝ }
     ensures { λ r. ⌜ r ≡ rowNumbers (now (rows .entry)) index ⌝ }
 {
     let bands = LspBand::in_order();
@@ -42,7 +43,8 @@ fn row_numbers(rows: &[i16; 2560], index: u32) -> [i16; 10]
 }
 
 // The set that an index makes of the previous one.
-pub fn decode_set(rows: &[i16; 2560], index: u32, prev: [f32; 10]) -> [f32; 10]
+pub fn decode_set(rows: &[i16], index: u32, prev: [f32; 10]) -> [f32; 10]
+    requires { ⌜ length (now rows) ≡ 2560 ⌝ }
     ensures { λ r. ⌜ r ≡ decoded (now (rows .entry)) index prev ⌝ }
 {
     let dc = spec_tables::lsp_dc_predicted_freq();
@@ -67,7 +69,8 @@ fn check_index_and_set(index: u32, prev: [f32; 10]) -> u32
 }
 
 // The decoder over rows that the caller lends.
-pub fn decode_in(rows: &[i16; 2560], index: u32, prev: [f32; 10]) -> Lines
+pub fn decode_in(rows: &[i16], index: u32, prev: [f32; 10]) -> Lines
+    requires { ⌜ length (now rows) ≡ 2560 ⌝ }
     ensures { λ r. ⌜ r ≡ decodeLspFreq (now (rows .entry)) index prev ⌝ }
 {
     let status = check_index_and_set(index, prev);

@@ -1,6 +1,7 @@
 // The quantiser of a line set (§2.5): its index is what is sent, and its set is what the decoder makes of that.
 ghost use mathlib.Core.Path.{_≡_};
 ghost use Prim.Native.Nat.{_<_};
+ghost use lib.ListN.{length};
 ghost use Rattle.float.specs.Refusal.{first};
 ghost use Rattle.spec_tables.specs.Codebook.{lspRows};
 ghost use Rattle.spec_lsp.specs.Quantise.{smaller, larger, weightOf, nearest, weights, target, chosen, indexOf};
@@ -15,7 +16,7 @@ pub struct Quantised {
 }
 
 // A refusal: its number, and zeros.
-fn refused(status: u32) -> Quantised
+pub fn refused(status: u32) -> Quantised
     ensures { λ r. ⌜ r ≡ refusedIndex status ⌝ }
 {
     Quantised {
@@ -82,7 +83,8 @@ fn residual_target(p: [f32; 10], prev: [f32; 10]) -> [f32; 10]
 }
 
 // The row that a band takes.
-fn choose(rows: &[i16; 2560], target: &[f32; 10], weights: &[f32; 10], band: LspBand) -> u8
+fn choose(rows: &[i16], target: &[f32; 10], weights: &[f32; 10], band: LspBand) -> u8
+    requires { ⌜ length (now rows) ≡ 2560 ⌝ }
     ensures { λ r. ⌜ r ≡ chosen (now (rows .entry)) (now (target .entry)) (now (weights .entry)) band ⌝ }
 {
     let first = band.first_row();
@@ -90,7 +92,8 @@ fn choose(rows: &[i16; 2560], target: &[f32; 10], weights: &[f32; 10], band: Lsp
     row_search::best_row(rows, first, place.length, 256, target, weights, place.start) as u8
 }
 
-fn best_index(rows: &[i16; 2560], p: [f32; 10], prev: [f32; 10]) -> u32
+fn best_index(rows: &[i16], p: [f32; 10], prev: [f32; 10]) -> u32
+    requires { ⌜ length (now rows) ≡ 2560 ⌝ }
     ensures { λ r. ⌜ r ≡ indexOf (now (rows .entry)) p prev ⌝ }
 {
     let t = residual_target(p, prev);
@@ -122,7 +125,8 @@ fn check_sets(p: [f32; 10], prev: [f32; 10]) -> u32
 }
 
 // The quantiser over rows that the caller lends.
-pub fn quantise_in(rows: &[i16; 2560], p: [f32; 10], prev: [f32; 10]) -> Quantised
+pub fn quantise_in(rows: &[i16], p: [f32; 10], prev: [f32; 10]) -> Quantised
+    requires { ⌜ length (now rows) ≡ 2560 ⌝ }
     ensures { λ r. ⌜ r ≡ quantiseLspFreq (now (rows .entry)) p prev ⌝ }
 {
     let status = check_sets(p, prev);

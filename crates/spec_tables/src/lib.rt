@@ -168,7 +168,8 @@ fn copied(rows: &[i16], at: usize, width: usize) -> [i16; 4]
 }
 
 // Row `index` of a band copied out, zeros after it, of rows that the caller lends: as many of the four as the band is wide are the row.
-pub fn lsp_codebook_entry(rows: &[i16; 2560], band: LspBand, index: u8) -> [i16; 4]
+pub fn lsp_codebook_entry(rows: &[i16], band: LspBand, index: u8) -> [i16; 4]
+    requires { ⌜ length (now rows) ≡ 2560 ⌝ }
     ensures four { λ r. ⌜ r ≡ padded (row (now (rows .entry)) band index) ⌝ }
     ensures row { λ r. ⌜ take (placeOf band .length) r ≡ row (now (rows .entry)) band index ⌝ }
 {

@@ -1,6 +1,7 @@
 // The spectrum of a frame (request E2): its lines, quantised, held apart and turned into the filters of the four subframes.
 ghost use mathlib.Core.Path.{_≡_};
 ghost use mathlib.Core.List.{_++_};
+ghost use lib.ListN.{length};
 ghost use Rattle.spec_tables.specs.Codebook.{lspRows};
 ghost use Rattle.spectrum.specs.Lines.{given, lines, stabilised};
 ghost use Rattle.spectrum.specs.Filters.{filterOf, filters, joined};
@@ -42,9 +43,10 @@ fn given_of(a: [f32; 11], set: [f32; 10]) -> Lines
     convert::lsp_cosines_to_freq(cosines)
 }
 
-// The index of a filter's lines after the decoded set, and the set that the decoder makes of it.
-pub fn lines_of(a: [f32; 11], set: [f32; 10]) -> Quantised
-    ensures { λ r. ⌜ r ≡ lines lspRows a set ⌝ }
+// The index of a filter's lines after the decoded set, and the set that the decoder makes of it, over rows that the caller lends.
+pub fn lines_in(rows: &[i16], a: [f32; 11], set: [f32; 10]) -> Quantised
+    requires { ⌜ length (now rows) ≡ 2560 ⌝ }
+    ensures { λ r. ⌜ r ≡ lines (now (rows .entry)) a set ⌝ }
 {
     let p = given_of(a, set);
     let status = p.status;
@@ -56,7 +58,15 @@ pub fn lines_of(a: [f32; 11], set: [f32; 10]) -> Quantised
         };
     }
     let freq = p.lines;
-    quantise::quantise_lsp_freq(freq, set)
+    quantise::quantise_in(rows, freq, set)
+}
+
+// The same over the built-in rows.
+pub fn lines_of(a: [f32; 11], set: [f32; 10]) -> Quantised
+    ensures { λ r. ⌜ r ≡ lines lspRows a set ⌝ }
+{
+    let t = spec_tables::lsp_rows();
+    lines_in(&t, a, set)
 }
 
 // The cosines of a decoded set, held apart.
@@ -141,13 +151,12 @@ fn join(f: Filters) -> [f32; 44]
     four_in_a_row(a0, a1, a2, a3)
 }
 
-// ---- the three stages
+// ---- the half
 
-// The spectrum of a frame: lines, stability and filters.
-pub fn spectrum_of(before: [f32; 10], last: [f32; 10], a: [f32; 11], spacing_hz: f32) -> Spectrum
-    ensures { λ r. ⌜ r ≡ spectrum lspRows before last a «spacing_hz» ⌝ }
+// The spectrum of a frame, from its lines after the last frame's cosines: stability and filters.
+pub fn spectrum_of(l: Quantised, last: [f32; 10], spacing_hz: f32) -> Spectrum
+    ensures { λ r. ⌜ r ≡ spectrum l last «spacing_hz» ⌝ }
 {
-    let l = lines_of(a, before);
     let set = l.set;
     let s = stabilise(set, spacing_hz);
     let lines = s.cosines;

@@ -132,10 +132,19 @@ pub fn of_parabola() -> bool {
     is_plain(f, 12876221, 92, 44, 0x4e2a_4253_37d8_5ab9)
 }
 
-pub fn of_pulses() -> bool {
-    let f = coded(Signal::Pulses);
+fn is_pulses(f: Frame) -> bool {
     let shaping = shaped(f, 40, 0x3e9f_a854, 0x3ea0_0000, 0x3ea0_0000);
     is_coded(f, 14390718, 40, 40, 0xeead_d5cc_0934_357e) & shaping
+}
+
+pub fn of_pulses() -> bool {
+    is_pulses(coded(Signal::Pulses))
+}
+
+// Over lent rows it has the same answer: so it has over the built-in ones.
+pub fn pulses_over(rows: &[i16]) -> bool {
+    let x = samples(Signal::Pulses);
+    is_pulses(own_rows::code_frame_in(rows, Coder::new(), &x, SPACING))
 }
 
 pub fn of_square() -> bool {
@@ -273,4 +282,11 @@ pub fn refusal_keeps() -> bool {
     let short = frame::code_frame(coder, &x[0..359], SPACING);
     let far = frame::code_frame(coder, &x, 401.0);
     is_refused(short, 8) & is_refused(far, 6)
+}
+
+// Too few rows, and too few samples, which nobody looks at then.
+pub fn refused_over(rows: &[i16]) -> bool {
+    let coder = uniform(5000.0, 0.5, 1.0, 2.0, 3.0);
+    let x = [0i16; 359];
+    is_refused(own_rows::code_frame_in(rows, coder, &x, SPACING), 1)
 }

@@ -47,7 +47,7 @@ fn times_prime(h: u64) -> u64 {
     std::num::wrapping_add_u64(upper, low)
 }
 
-fn with_byte(hash: u64, byte: u64) -> u64 {
+pub fn with_byte(hash: u64, byte: u64) -> u64 {
     times_prime(hash ^ byte)
 }
 

@@ -1,13 +1,16 @@
 // The worked cases of document 01 that are run, E11 to E14, with E11's step as request E1 has it, the limits of narrowing and of
 // the cosine rule, whole frames as request E2 has them, the combined filter's memories, which request E3 leaves as they were,
-// and indices of 24 bits and longer words, which request E4 refuses: one line each, and how many passed.
+// indices of 24 bits and longer words, which request E4 refuses, and code rows of a caller's own, which request E5 loads: one line
+// each, and how many passed.
 mod cosines;
+mod files;
 mod filters;
 mod frames;
 mod frequencies;
 mod indices;
 mod lists;
 mod narrowing;
+mod rows;
 mod stages;
 
 use libc::STDOUT_FILENO;
@@ -335,6 +338,142 @@ fn index_cases(tally: Tally) -> Tally {
     )
 }
 
+fn file_cases(tally: Tally) -> Tally {
+    let t = case(
+        tally,
+        b"the built-in rows' file has 5,128 bytes of FNV 17842c971b3fa02a, and loads to them",
+        rows::built_in_file(),
+    );
+    let t = case(
+        t,
+        b"behind 27,640 bytes of notes, and behind 3, it loads to them too",
+        rows::behind_notes(),
+    );
+    let t = case(
+        t,
+        b"behind 27,641 it is refused with 10, and the buffer is as it was",
+        rows::notes_too_long(),
+    );
+    let t = case(
+        t,
+        b"of two files behind each other the last one counts",
+        rows::last_file_counts(),
+    );
+    let t = case(
+        t,
+        b"less a byte, or with one behind it, a file is refused with 10",
+        rows::cut_and_lengthened(),
+    );
+    let t = case(
+        t,
+        b"so are the count before the distance, and a trailer with the high byte first",
+        rows::other_trailers(),
+    );
+    let t = case(
+        t,
+        b"the file of R has FNV 5d0a77e237208297, and loads to R",
+        rows::other_file(),
+    );
+    let t = case(
+        t,
+        b"a last number of 8,192 is taken",
+        rows::taken_last(8192),
+    );
+    let t = case(
+        t,
+        b"a last number of -8,192 is taken",
+        rows::taken_last(-8192),
+    );
+    let t = case(
+        t,
+        b"a last number of 8,193 is refused with 11, and the buffer is as it was",
+        rows::refused_last(8193),
+    );
+    let t = case(
+        t,
+        b"a last number of -8,193 is refused with 11, and the buffer is as it was",
+        rows::refused_last(-8193),
+    );
+    let t = case(
+        t,
+        b"another trailer is refused with 10 before a number of 8,193",
+        rows::form_first(),
+    );
+    case(
+        t,
+        b"a buffer of 2,559 places is refused with 1, whatever the file",
+        rows::buffer_first(),
+    )
+}
+
+fn row_cases(tally: Tally) -> Tally {
+    let t = case(
+        tally,
+        b"row 0 of band 0 of R is -8192 -273 7646, at place 0",
+        rows::first_row(),
+    );
+    let t = case(
+        t,
+        b"row 255 of band 1 of R is 6735 -1731 6188, at place 1,533",
+        rows::last_of_band_1(),
+    );
+    let t = case(
+        t,
+        b"row 255 of band 2 of R is -2703 5216 -3250 4669, at place 2,556",
+        rows::last_of_band_2(),
+    );
+    let t = case(
+        t,
+        b"a row of band 3 is refused with 2, an empty part",
+        rows::no_such_row(3, 0),
+    );
+    let t = case(
+        t,
+        b"row 256 of band 0 is refused with 2, an empty part",
+        rows::no_such_row(0, 256),
+    );
+    let t = case(
+        t,
+        b"of 2,559 numbers a row is refused with 1 before the band is looked at, an empty part",
+        rows::no_row_of_2559(),
+    );
+    let t = case(
+        t,
+        b"over R the case's set has index 16,182,995, and the set that it decodes to",
+        rows::quantised(),
+    );
+    let t = case(
+        t,
+        b"over the built-in rows, lent, it has index 66,051",
+        rows::built_in_lent(),
+    );
+    let t = case(
+        t,
+        b"over 2,559 numbers all else is refused with 1 and zeros",
+        rows::length_first(),
+    );
+    let t = case(
+        t,
+        b"over R a NaN is refused with 5, 70,000 with 6 and a longer word with 9, in their order",
+        rows::refused_in_order(),
+    );
+    let t = case(
+        t,
+        b"over rows of 16,384, which no load takes, the second set is 22,528 off; over 32,767 the third index is refused with 6",
+        rows::beyond_the_check(),
+    );
+    let t = case(
+        t,
+        b"a frame over the built-in rows, lent, is the built-in frame, and over R another",
+        rows::frame_lent(),
+    );
+    case(
+        t,
+        b"a frame over 2,559 numbers is refused with 1, and the memories are as they were",
+        rows::frame_refused(),
+    )
+}
+
 fn main() {
     let first = frequency_cases(Tally {
         passed: 0,
@@ -346,7 +485,9 @@ fn main() {
     let fifth = cosine_cases(fourth);
     let sixth = frame_cases(fifth);
     let seventh = filter_cases(sixth);
-    let tally = index_cases(seventh);
+    let eighth = index_cases(seventh);
+    let ninth = file_cases(eighth);
+    let tally = row_cases(ninth);
     io::print_decimal(STDOUT_FILENO, tally.passed);
     io::write_all(STDOUT_FILENO, b" passed, ");
     io::print_decimal(STDOUT_FILENO, tally.failed);

@@ -39,7 +39,7 @@ fn answer<T>(status: u32, made: T) -> Result<T, Refusal> {
     }
 }
 
-/// A coder's memory: [`new_coder`] starts it, and then only [`code_frame`] alters it.
+/// A coder's memory: [`new_coder`] starts it, and then only [`code_frame`], or [`code_frame_in`], alters it.
 pub use doors::g7231_coder as Coder;
 /// What a frame is coded as.
 pub use doors::g7231_frame as Frame;
@@ -52,9 +52,12 @@ pub fn new_coder() -> Coder {
     coder
 }
 
+/// What a frame is before it is coded.
+const NO_FRAME: Frame = Frame { index: 0, pitch: [0; 2], lag: [0; 4], factor: [0.0; 4], a: [[0.0; G7231_FILTER]; 4] };
+
 /// Codes a frame of 240 samples, given with the 60 before it and the 60 after it.
 pub fn code_frame(coder: &mut Coder, samples: &[i16], spacing_hz: f32) -> Result<Frame, Refusal> {
-    let mut frame = Frame { index: 0, pitch: [0; 2], lag: [0; 4], factor: [0.0; 4], a: [[0.0; G7231_FILTER]; 4] };
+    let mut frame = NO_FRAME;
     let status = unsafe { g7231_code_frame(coder, samples.as_ptr(), samples.len(), spacing_hz, &mut frame) };
     answer(status, frame)
 }
@@ -244,4 +247,49 @@ pub fn combined_impulse_response(aq: &Filter, taps: &Taps, shaping: Shaping) -> 
     let Shaping { lag, beta } = shaping;
     let status = unsafe { g7231_combined_impulse_response(aq, &taps.wz, &taps.wp, lag, beta, &mut out) };
     answer(status, out)
+}
+
+/// Code rows of one's own. Only [`load_rows`] makes them and nothing alters them, which is what the header asks of rows
+/// that are lent. Both ends of a line must have the same.
+#[derive(Clone)]
+pub struct Rows([i16; G7231_ROWS]);
+
+/// The code rows of a file: notes, 2,560 numbers and two more, in at most 32,768 bytes.
+pub fn load_rows(file: &[u8]) -> Result<Rows, Refusal> {
+    let mut rows = Rows([0; G7231_ROWS]);
+    let status = unsafe { g7231_load_rows(file.as_ptr(), file.len(), rows.0.as_mut_ptr(), rows.0.len()) };
+    answer(status, rows)
+}
+
+/// A row of a band.
+#[allow(dead_code)]
+pub fn row(rows: &Rows, band: u32, index: u32) -> Result<&[i16], Refusal> {
+    let (mut start, mut count) = (0, 0);
+    let status = unsafe { g7231_row(rows.0.as_ptr(), rows.0.len(), band, index, &mut start, &mut count) };
+    answer(status, &rows.0[start..start + count])
+}
+
+/// [`quantise_lsp_freq`] over these rows.
+pub fn quantise_lsp_freq_in(rows: &Rows, p: &Lines, prev: &Lines) -> Result<(u32, Lines), Refusal> {
+    let (mut index, mut set) = (0, [0.0; G7231_ORDER]);
+    let Rows(rows) = rows;
+    let status = unsafe { g7231_quantise_lsp_freq_in(rows.as_ptr(), rows.len(), p, prev, &mut index, &mut set) };
+    answer(status, (index, set))
+}
+
+/// [`decode_lsp_freq`] over these rows.
+pub fn decode_lsp_freq_in(rows: &Rows, index: u32, prev: &Lines) -> Result<Lines, Refusal> {
+    let mut set = [0.0; G7231_ORDER];
+    let status = unsafe { g7231_decode_lsp_freq_in(rows.0.as_ptr(), rows.0.len(), index, prev, &mut set) };
+    answer(status, set)
+}
+
+/// [`code_frame`] over these rows.
+pub fn code_frame_in(rows: &Rows, coder: &mut Coder, samples: &[i16], spacing_hz: f32) -> Result<Frame, Refusal> {
+    let mut frame = NO_FRAME;
+    let (Rows(rows), count) = (rows, samples.len());
+    let status = unsafe {
+        g7231_code_frame_in(rows.as_ptr(), rows.len(), coder, samples.as_ptr(), count, spacing_hz, &mut frame)
+    };
+    answer(status, frame)
 }

@@ -1,16 +1,18 @@
 //! Codes a call by the frame call and by the doors one by one, and decodes it at the other end, as examples/c/call.c
-//! does; prints the same lines.
+//! does; prints the same lines. Where a file of code rows is named, all of it is over that file's rows.
 
 mod g7231;
 mod hash;
 
+use std::fs::File;
+use std::io::Read;
 use std::process::exit;
 
 use g7231::doors::{
     G7231_FRAME as FRAME, G7231_NO_LINE_SET, G7231_PAST as PAST, G7231_SPAN as SPAN, G7231_SUBFRAME as SUBFRAME,
     G7231_WINDOW as WINDOW,
 };
-use g7231::{Bands, Coder, CombinedMem, Frame, Refusal, Shaping, Taps, WeightingMem};
+use g7231::{Bands, Coder, CombinedMem, Frame, Refusal, Rows, Shaping, Taps, WeightingMem};
 use hash::Hash;
 
 type Lines = [f32; 10];
@@ -65,7 +67,7 @@ fn windows(x: &[f32; SPAN], answers: &mut Hash) -> Result<(Filters, [Taps; 4]), 
 
 /// The lines of a filter as an index, and the set that the decoder makes of it. A filter that has no lines (7) refuses
 /// nothing: the set before is quantised in their place.
-fn quantise(a: &[f32; 11], set: &Lines, answers: &mut Hash) -> Result<(u32, Lines), Refusal> {
+fn quantise(rows: Option<&Rows>, a: &[f32; 11], set: &Lines, answers: &mut Hash) -> Result<(u32, Lines), Refusal> {
     let freq = match g7231::lpc_to_lsp(a) {
         Ok(found) => {
             answers.number(0);
@@ -80,13 +82,21 @@ fn quantise(a: &[f32; 11], set: &Lines, answers: &mut Hash) -> Result<(u32, Line
         Err(other) => return Err(other),
     };
     answers.singles(&freq);
-    g7231::quantise_lsp_freq(&freq, set)
+    match rows {
+        None => g7231::quantise_lsp_freq(&freq, set),
+        Some(rows) => g7231::quantise_lsp_freq_in(rows, &freq, set),
+    }
 }
 
 /// What `code_frame` does, by the doors one by one, and the weighting taps beside it.
-fn step(coder: &mut Coder, x: &[f32; SPAN], answers: &mut Hash) -> Result<(Frame, [Taps; 4]), Refusal> {
+fn step(
+    rows: Option<&Rows>,
+    coder: &mut Coder,
+    x: &[f32; SPAN],
+    answers: &mut Hash,
+) -> Result<(Frame, [Taps; 4]), Refusal> {
     let (a, taps) = windows(x, answers)?;
-    let (index, set) = quantise(&a[3], &coder.set, answers)?;
+    let (index, set) = quantise(rows, &a[3], &coder.set, answers)?;
     let lines = settle(&set, answers)?;
     let a = filters(&coder.lines, &lines, answers)?;
 
@@ -137,8 +147,12 @@ struct Decoder {
 
 impl Decoder {
     /// The same set, lines and filters from the index alone, of which three bytes were sent.
-    fn decode(&mut self, sent: &Bands, answers: &mut Hash) -> Result<Filters, Refusal> {
-        self.set = g7231::decode_lsp_freq(g7231::combine_lsp_index(sent), &self.set)?;
+    fn decode(&mut self, rows: Option<&Rows>, sent: &Bands, answers: &mut Hash) -> Result<Filters, Refusal> {
+        let index = g7231::combine_lsp_index(sent);
+        self.set = match rows {
+            None => g7231::decode_lsp_freq(index, &self.set)?,
+            Some(rows) => g7231::decode_lsp_freq_in(rows, index, &self.set)?,
+        };
         let last = self.lines;
         self.lines = settle(&self.set, answers)?;
         filters(&last, &self.lines, answers)
@@ -178,7 +192,15 @@ fn read_call(name: &str) -> Result<Vec<i16>, String> {
     Ok(samples)
 }
 
-fn run(name: &str) -> Result<(), String> {
+/// The rows of a file, of which no more is read than what is too much.
+fn read_rows(name: &str) -> Result<Rows, String> {
+    let mut bytes = Vec::new();
+    let read = File::open(name).and_then(|file| file.take(32769).read_to_end(&mut bytes));
+    read.map_err(|e| format!("{name}: {e}"))?;
+    g7231::load_rows(&bytes).map_err(|why| format!("{name}: refused with {}: {why}", why.0))
+}
+
+fn run(name: &str, rows: Option<&Rows>) -> Result<(), String> {
     let refused = |why: Refusal| format!("a door refused with {}: {why}", why.0);
     let samples = read_call(name)?;
     let (mut caller, mut stepper) = (g7231::new_coder(), g7231::new_coder());
@@ -188,13 +210,17 @@ fn run(name: &str) -> Result<(), String> {
     let [mut coded, mut called, mut stepped, mut answers] = [(); 4].map(|()| Hash::new());
     for (k, start) in (0..samples.len() - 2 * AROUND).step_by(FRAME).enumerate() {
         let around = &samples[start..start + SPAN];
-        let frame = g7231::code_frame(&mut caller, around, SPACING_HZ).map_err(refused)?;
+        let frame = match rows {
+            None => g7231::code_frame(&mut caller, around, SPACING_HZ),
+            Some(rows) => g7231::code_frame_in(rows, &mut caller, around, SPACING_HZ),
+        };
+        let frame = frame.map_err(refused)?;
         coded.numbers(&[frame.index, frame.pitch[0], frame.pitch[1]]);
         let one = bits(&frame, &caller);
         called.numbers(&one);
 
         let x = std::array::from_fn(|i| f32::from(around[i]));
-        let (again, taps) = step(&mut stepper, &x, &mut answers).map_err(refused)?;
+        let (again, taps) = step(rows, &mut stepper, &x, &mut answers).map_err(refused)?;
         let other = bits(&again, &stepper);
         stepped.numbers(&other);
         answers.numbers(&other);
@@ -204,7 +230,7 @@ fn run(name: &str) -> Result<(), String> {
         combine(&mut combined, &x, &frame, &taps, &mut answers).map_err(refused)?;
 
         let sent = g7231::split_lsp_index(frame.index).map_err(refused)?;
-        let a = decoder.decode(&sent, &mut answers).map_err(refused)?;
+        let a = decoder.decode(rows, &sent, &mut answers).map_err(refused)?;
         same(&decoder.set, &caller.set, k, "sets")?;
         same(&decoder.lines, &caller.lines, k, "lines")?;
         same(a.as_flattened(), frame.a.as_flattened(), k, "filters")?;
@@ -217,14 +243,17 @@ fn run(name: &str) -> Result<(), String> {
     Ok(())
 }
 
-const USAGE: &str = "call FILE: codes and decodes a call, 16-bit little-endian mono at 8,000 samples a second";
+const USAGE: &str =
+    "call FILE [ROWS]: codes and decodes a call, 16-bit little-endian mono at 8,000 samples a second; over \
+the code rows of a file, as `rows write` of examples/c/rows.c writes one, where ROWS names it";
 
 fn main() {
     let words: Vec<String> = std::env::args().skip(1).collect();
     match &words[..] {
         [word] if word == "--help" || word == "-h" => println!("{USAGE}"),
-        [name] => {
-            if let Err(why) = run(name) {
+        [name, rows @ ..] if rows.len() <= 1 => {
+            let rows = rows.first().map(|file| read_rows(file)).transpose();
+            if let Err(why) = rows.and_then(|rows| run(name, rows.as_ref())) {
                 eprintln!("call: {why}");
                 exit(1);
             }

@@ -6,9 +6,9 @@ use oracle::operations::{named, others, Operation, OPERATIONS};
 use oracle::progress::Progress;
 use oracle::random::Random;
 use oracle::runner::{run, Plan, Tally};
+use oracle::shape::{Field, Kind};
 use oracle::shrink::shrink;
 use oracle::trial::{Judge, Trial};
-use oracle::words::Reader;
 use std::cell::Cell;
 use std::ops::Range;
 use std::process::exit;
@@ -30,14 +30,16 @@ differ: call the door of every function that the Rust has and compare its answer
   --progress     show progress on standard error even where that is no terminal
   --plant        a check of differ itself: before it is compared, the last word of each answer that is no refusal is
                  altered by one bit where two words of the input are below zero, read as singles; of an input of fewer
-                 than four words, where each is above 100
+                 than four words, where each is above 100; of a longer one without singles, where two are
   --help         this text
 
 The limits come first, then random bits, speech-like values and damaged copies. Results are compared bit for bit with
 the Rust in which each call of cos, acos and log10 is replaced by document 01's rule, as request E1 changed it; every NaN
-counts as one. A frame is compared with the Rust's functions in the chain of request E2, memories included. After a refusal
-every lent buffer must be untouched. For functions that call cos, acos or log10 the largest distance to the published Rust is
-printed, with the input that showed it, and held to document 01's bounds; of a frame, how often its index is another.
+counts as one. A frame is compared with the Rust's functions in the chain of request E2, memories included. What is done over
+lent code rows is compared with the Rust's text in which the rows are those; loading rows and finding one, which the Rust does
+not do, with a model written from request E5. After a refusal every lent buffer must be untouched. For functions that call
+cos, acos or log10 the largest distance to the published Rust is printed, with the input that showed it, and held to document
+01's bounds; of a frame, how often its index is another.
 
 An input is fixed by seed, function and turn. The outcome of a seed and a count is the same on any number of threads.
 The run stops at the first difference, the one of the lowest turn, and prints it; then the plainest input found that
@@ -48,6 +50,9 @@ Doors of the header that the Rust has no function for are named and not compared
 Variables, when oracle/ is built: G7231_RUST, the folder with src/encoder.rs; G7231_FOLDER, what ./install wrote.
 Exit status: 0 no difference, or no Rust to compare with; 1 a difference, or a bound broken; 2 bad usage.
 ";
+
+/// The words of an input that a line of the outcome still shows.
+const LONGEST_SHOWN: usize = 1_000;
 
 thread_local! {
     /// The function and turn that a thread is at, for the message of a panic.
@@ -200,7 +205,7 @@ impl Run {
             tally.refused += u64::from(trial.wanted_status != 0);
             match trial.fault {
                 Some(_) => tally.fault = Some(turn),
-                None => self.judge.measure(operation, &given, &trial, &mut tally.distances),
+                None => self.judge.measure(operation, turn, &given, &trial, &mut tally.distances),
             }
         };
         let tally = run(&plan, &one, |tally| progress.show(|| shown(operation, &plan, tally, began)));
@@ -283,7 +288,11 @@ fn line(operation: &Operation, seed: u64, tally: &Tally, began: Instant) -> (Str
     for count in &tally.distances.counts {
         line += &format!("; {}: {} times", count.what, count.times);
         if count.times > 0 {
-            line += &format!(", first at {}", short(&count.shown_by));
+            // an input with code rows in it would fill the screen
+            line += &match count.shown_by.len() {
+                0..=LONGEST_SHOWN => format!(", first at {}", short(&count.shown_by)),
+                _ => format!(", first at turn {}", count.turn),
+            };
         }
     }
     (line, within)
@@ -292,8 +301,7 @@ fn line(operation: &Operation, seed: u64, tally: &Tally, began: Instant) -> (Str
 /// Prints an input, what the door gave and what was wanted, field by field, as bits; of a refusal the status alone.
 fn show(operation: &Operation, given: &[u32], trial: &Trial) {
     for (field, words) in operation.takes().iter().zip(operation.parts(given)) {
-        let length = if field.is_list() { format!(" ({} samples)", words.len()) } else { String::new() };
-        println!("  given  {}{length}: {}", field.name, short(words));
+        println!("  given  {}{}: {}", field.name, length(field, words), short(words));
     }
     let answers = [("gave  ", trial.status, &trial.gave), ("wanted", trial.wanted_status, &trial.wanted)];
     for (what, status, words) in answers {
@@ -301,9 +309,18 @@ fn show(operation: &Operation, given: &[u32], trial: &Trial) {
         if status != 0 {
             continue;
         }
-        let mut reader = Reader::new(words);
-        for field in &operation.gives {
-            println!("  {what} {}: {}", field.name, short(reader.words(field.kind.words())));
+        for (field, words) in operation.gives.iter().zip(operation.results(words)) {
+            println!("  {what} {}{}: {}", field.name, length(field, words), short(words));
         }
+    }
+}
+
+/// Of a list, how long it is.
+fn length(field: &Field, words: &[u32]) -> String {
+    match field.kind {
+        Kind::Samples => format!(" ({} samples)", words.len()),
+        Kind::Shorts => format!(" ({} numbers)", words.len()),
+        Kind::ByteList => format!(" ({} bytes)", words.len()),
+        _ => String::new(),
     }
 }

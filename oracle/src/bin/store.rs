@@ -7,7 +7,8 @@ use oracle::random::Random;
 use std::io::Write;
 
 const HELP: &str = "\
-store: write the Rust's answers for the operations of document 01 and of requests E2 and E4, kept as crates/replay/stdin
+store: write the Rust's answers for the operations of document 01 and of requests E2 and E4, kept as crates/replay/stdin;
+none for those of request E5, whose inputs have thousands of words
 
   --seed S       the seed of the inputs (1)
   --only NAME    one operation alone
@@ -24,8 +25,8 @@ requests before it, so that their lines keep their numbers. The Rust's calls of 
 Exit status: 0 done; 1 the Rust is not at hand; 2 bad usage.
 ";
 
-/// The last operation of document 01, of request E2 and of request E4.
-const LAST: [u32; 3] = [15, 17, 19];
+/// The last operation of document 01, of request E2, of request E4 and of request E5.
+const LAST: [u32; 4] = [15, 17, 19, 24];
 
 /// Inputs that are aimed at one fault each.
 const AIMED: &str = include_str!("../../aimed.txt");

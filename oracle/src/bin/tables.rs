@@ -60,10 +60,8 @@ fn rust_tables() -> Vec<(&'static str, Vec<i64>)> {
     #[cfg(rust)]
     {
         use oracle::spec_tables as rust;
-        let bands = [&rust::LSP_CODEBOOK_BAND0_Q13[..], &rust::LSP_CODEBOOK_BAND1_Q13, &rust::LSP_CODEBOOK_BAND2_Q13];
-        let rows = bands.concat();
         let all: [(&str, &[i16]); 7] = [
-            ("LSP_CODEBOOK", &rows),
+            ("LSP_CODEBOOK", oracle::code_rows::built_in()),
             ("LSP_BAND_INFO", &rust::LSP_BAND_INFO),
             ("LSP_DC_PREDICTED_FREQ_Q15", &rust::LSP_DC_PREDICTED_FREQ_Q15),
             ("LPC_HAMMING_WINDOW_Q15", &rust::LPC_HAMMING_WINDOW_Q15),

@@ -14,12 +14,12 @@ must be one public function of that name in crates/*/src. Its clauses must be `e
 equations of the row: one for the answer and one for each parameter lent with &mut, the definition's name in each, and that
 name imported from the definition's file. The page writes x where the source has `now (x .entry)`.
 
-Every door of include/g7231.h must have a row. Its exported function, in crates/c_api/src or crates/c_api_frame/src, must
-state, in `ensures` alone,
+Every door of include/g7231.h must have a row. Its exported function, in the src of one of crates/c_api*, must state, in
+`ensures` alone,
   r ≡ E .status
   now (x .exit) ≡ lent r (now (x .entry)) (E .part)    for each parameter x that it may write, each with a part of its own
 E being the right side of the row; `flag (E .part)` may stand for `E .part`. What the operation takes whole and the door in parts
-stands as a definition of one of these two crates over the door's parameters, as `memory syn ..` for mem. A door that the header
+stands as a definition of one of these crates over the door's parameters, as `memory syn ..` for mem. A door that the header
 has refuse nothing states `r ≡ 0` and `now (x .exit) ≡ E`.
 
 Exit status: 0 all hold; 1 one does not, and is told; 2 bad usage.

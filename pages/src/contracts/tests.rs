@@ -12,6 +12,7 @@ const SAMPLE: &str = "
 | form | definition | contract |
 |---|---|---|
 | `halve_lent` | `crates/half/specs/Half.antt#halved` | `r ≡ told (halved way mem)`, `now (mem .exit) ≡ halved way mem .mem` |
+| `fill` | `crates/half/specs/Fill.antt#filled` | `r ≡ filled way out .status`, `now (out .exit) ≡ filled way out .out` |
 | `rest` | `crates/half/specs/Rest.antt#resting` | `r ≡ resting` |
 | `new_mem` | `crates/half/specs/Rest.antt#newMem` | `r ≡ newMem` |
 ";
@@ -19,6 +20,7 @@ const SAMPLE: &str = "
 const OPERATIONS: &str = "
 ghost use mathlib.Core.Path.{_≡_};
 ghost use Rattle.half.specs.Half.{halved, pair, told};
+ghost use Rattle.half.specs.Fill.{filled};
 ghost use Rattle.half.specs.Rest.{resting, newMem};
 
 impl Mem {
@@ -38,6 +40,12 @@ pub fn halve_lent(way: u32, mem: &mut Mem) -> Told
 {
 }
 
+pub fn fill(way: u32, out: &mut [f32]) -> u32
+    ensures status { λ r. ⌜ r ≡ filled way (now (out .entry)) .status ⌝ }
+    ensures out { λ r. ⌜ now (out .exit) ≡ filled way (now (out .entry)) .out ⌝ }
+{
+}
+
 pub fn rest() -> [f32; 10]
     ensures { λ r. ⌜ r ≡ resting ⌝ }
 {
@@ -47,6 +55,7 @@ pub fn rest() -> [f32; 10]
 const DOORS: &str = r#"
 ghost use mathlib.Core.Path.{_≡_};
 ghost use Rattle.half.specs.Half.{halved, pair};
+ghost use Rattle.half.specs.Fill.{filled};
 ghost use Rattle.half.specs.Rest.{resting, newMem};
 ghost use Rattle.c_api.specs.Lent.{lent, flag};
 ghost use Rattle.c_api.specs.Memory.{memory};
@@ -61,6 +70,14 @@ pub extern "C" fn g7231_bare_halve(a: &[f32], way: u32, r: &mut [f32; 4], d_b: &
     ensures lags { λ s. ⌜ now (lag .exit) ≡ lent s (now (lag .entry)) (lags (halved (pair (now (a .entry)) way) (memory (now (r .entry)) (now («d_b» .entry))) .settings)) ⌝ }
     ensures factors { λ s. ⌜ now (factor .exit) ≡ lent s (now (factor .entry)) (factors (halved (pair (now (a .entry)) way) (memory (now (r .entry)) (now («d_b» .entry))) .settings)) ⌝ }
     ensures told { λ s. ⌜ now (yes .exit) ≡ lent s (now (yes .entry)) (flag (halved (pair (now (a .entry)) way) (memory (now (r .entry)) (now («d_b» .entry))) .yes)) ⌝ }
+{
+}
+
+// its operation is lent the buffer itself
+#[no_mangle]
+pub extern "C" fn g7231_fill(way: u32, out: &mut [f32]) -> u32
+    ensures status { λ s. ⌜ s ≡ filled way (now (out .entry)) .status ⌝ }
+    ensures out { λ s. ⌜ now (out .exit) ≡ filled way (now (out .entry)) .out ⌝ }
 {
 }
 
@@ -93,6 +110,15 @@ const TABLE: &str = r#"
         refusals: &[1, 5],
         safe: safe_halve,
         bare: bare_halve,
+    },
+    Door {
+        name: "fill",
+        parameters: &[
+            Parameter { name: "out", way: Way::Made, element: Element::F32, many: Many::Slice(4), role: "" },
+        ],
+        refusals: &[1],
+        safe: safe_fill,
+        bare: safe_fill,
     },
     Door {
         name: "rest",
@@ -136,14 +162,24 @@ fn the_sample_holds() {
 }
 
 #[test]
-fn doors_stand_in_two_crates() {
+fn doors_stand_in_any_crate_named_for_it() {
     let (half, one, other) = ("crates/half/src/lib.rt", "crates/c_api/src/lib.rt", "crates/c_api_frame/src/lib.rt");
     let said = |texts: &[(&str, &str)]| faults_in(SAMPLE, TABLE, texts);
     assert_eq!(said(&[(half, OPERATIONS), (other, DOORS)]), [""; 0]);
     let twice = said(&[(half, OPERATIONS), (one, DOORS), (other, DOORS)]);
     assert!(twice.iter().any(|fault| fault.contains("there are 2 public functions")), "{twice:?}");
-    let elsewhere = said(&[(half, OPERATIONS), ("crates/c_api_more/src/lib.rt", DOORS)]);
+    let elsewhere = said(&[(half, OPERATIONS), ("crates/more_c_api/src/lib.rt", DOORS)]);
     assert!(elsewhere.iter().any(|fault| fault.contains("there are 0 public functions")), "{elsewhere:?}");
+}
+
+#[test]
+fn a_program_has_no_operations() {
+    let (half, doors) = (("crates/half/src/lib.rt", OPERATIONS), ("crates/c_api/src/lib.rt", DOORS));
+    let said = |more: &[(&str, &str)]| faults_in(SAMPLE, TABLE, &[&[half, doors], more].concat());
+    let same = "pub fn halve(a: u32) -> bool {\n}\n";
+    assert_eq!(said(&[("crates/play/src/main.rt", ""), ("crates/play/src/more.rt", same)]), [""; 0]);
+    let library = said(&[("crates/play/src/lib.rt", ""), ("crates/play/src/more.rt", same)]);
+    assert!(library.iter().any(|fault| fault.contains("there are 2 public functions")), "{library:?}");
 }
 
 #[test]
@@ -235,6 +271,19 @@ fn a_door_that_says_less() {
     found(DOORS, "lent s (now (r .entry))", "lent 0 (now (r .entry))", "g7231_bare_halve: r afterwards");
     found(DOORS, "lent s (now (r .entry))", "lent s (now (r .exit))", "g7231_bare_halve: r afterwards");
     found(DOORS, "(now («d_b» .entry))) .status", "(now (r .entry))) .status", "g7231_bare_halve: ");
+}
+
+#[test]
+fn a_door_of_an_operation_that_is_lent_the_buffer() {
+    let of = |s: &str, part: &str| format!("{s} ≡ filled way (now (out .entry)) {part}");
+    let says = |old: String, new: String, words: &str| found(DOORS, &old, &new, words);
+    says(of("s", ".status"), of("s", ".out"), "g7231_fill: its status is");
+    says(of("s", ".status"), "s ≡ 0".into(), "g7231_fill: its status is");
+    let held = "now (out .exit)";
+    says(of(held, ".out"), of(held, ".status"), "g7231_fill: out afterwards is");
+    says(of(held, ".out"), format!("{held} ≡ now (out .entry)"), "g7231_fill: out afterwards is");
+    let line = format!("    ensures out {{ λ s. ⌜ {} ⌝ }}\n", of(held, ".out"));
+    says(line, String::new(), "g7231_fill: it ensures nothing of out afterwards");
 }
 
 #[test]

@@ -30,6 +30,8 @@ decode-lsp-freq-spec =
     (λ c. search answer-refused)
     -- lsp-rows-requires
     (λ c κs. search needs)
+    -- slice-aggregate-decode-set
+    (λ c. search needs)
     -- decode-set-requires
     (λ c κs. search needs)
     -- returns-2

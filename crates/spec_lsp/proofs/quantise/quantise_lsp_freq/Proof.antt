@@ -9,6 +9,8 @@ quantise-lsp-freq-spec =
     (tie.spec
     -- lsp-rows-requires
     (λ c κs. search needs)
+    -- slice-aggregate-quantise-in
+    (λ c. search needs)
     -- quantise-in-requires
     (λ c κs. search needs)
     -- returns

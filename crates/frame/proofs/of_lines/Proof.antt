@@ -1,15 +1,13 @@
--- `frame::code_singles` meets its contract: the first status of the three parts refuses the frame, or the halves make it. Assumes nothing.
+-- `frame::of_lines` meets its contract: the first status of the three parts refuses the frame, or the halves make it. Assumes nothing.
 use borrow.Author.Needs.{needs}
 use Rattle.frame.proofs.Halves.{frame-refused, frame-finished}
-use Rattle.frame.proofs.code_singles.Statement.{statement}
-use Rattle.frame.proofs.code_singles.Tie as tie
+use Rattle.frame.proofs.of_lines.Statement.{statement}
+use Rattle.frame.proofs.of_lines.Tie as tie
 
-pub code-singles-spec : {M : Type 1} → statement M
-code-singles-spec =
+pub of-lines-spec : {M : Type 1} → statement M
+of-lines-spec =
     tie.close
     (tie.spec
-    -- windows-of-requires
-    (λ c κs. search needs)
     -- spectrum-of-requires
     (λ c κs. search needs)
     -- voice-of-requires

@@ -1,0 +1,26 @@
+-- `c_api_rows::g7231_bare_decode_lsp_freq_in` meets its contract. Assumes nothing.
+use borrow.Author.Needs.{needs}
+use Prim.Native.Nat.{ℕ}
+use mathlib.Core.List.{List}
+use lib.Ieee.{Float}
+use Rattle.float.specs.declared.Lines.{Lines}
+use Rattle.c_api.proofs.Lent.{told, stored, kept}
+use Rattle.c_api_rows.proofs.g7231_bare_decode_lsp_freq_in.Statement.{statement}
+use Rattle.c_api_rows.proofs.g7231_bare_decode_lsp_freq_in.Tie as tie
+
+abbrev status : Lines → ℕ
+status a = a .status
+
+abbrev lines : Lines → List Float
+lines a = a .lines
+
+pub g7231-bare-decode-lsp-freq-in-spec : {M : Type 1} → statement M
+g7231-bare-decode-lsp-freq-in-spec =
+    tie.close
+    (tie.spec
+    -- decode-lsp-freq-in-requires
+    (λ c κs. search needs)
+    -- returns
+    (λ c. search (told status, stored status lines))
+    -- returns-2
+    (λ c. search (told status, kept status lines)))

@@ -1,0 +1,3 @@
+-- Code rows that a caller lends.
+pub mod Row
+pub mod Own
