@@ -11,7 +11,7 @@ use lib.Seq.{getD-set-other}
 use lib.Ieee.{Float, nan}
 use Rattle.float.specs.Loop.{times, over}
 use Rattle.float.proofs.Loop.{over-more, keeps}
-use Rattle.combined.specs.Memory.{reach}
+use Rattle.harmonic_history.specs.History.{places}
 use Rattle.combined.specs.Cascade.{Settings}
 use Rattle.combined.specs.inner.Step.{Arrays, arrays, synthetic, formant, begun, ended, sampled, stepped, AtMostOne, AltersOne, EqualBefore, Stays}
 use Rattle.combined.specs.inner.Shaped.{shaped}
@@ -24,12 +24,12 @@ kept : (xs : List Float) (i : ℕ) → AtMostOne i xs xs
 kept xs i = record { long = refl; others = λ j h. refl }
 
 each-stored : (a : Arrays) (m n : ℕ) (u v w x y : Float)
-    → AltersOne m n a (arrays (set (a .syn) (m + 10) u) (set (a .xs) (m + 10) v) (set (a .fs) (n + 10) w) (set (a .p) (n + reach) x) (set (a .out) n y))
+    → AltersOne m n a (arrays (set (a .syn) (m + 10) u) (set (a .xs) (m + 10) v) (set (a .fs) (n + 10) w) (set (a .p) (n + places) x) (set (a .out) n y))
 each-stored a m n u v w x y = record {
   syn = stored (a .syn) (m + 10) u;
   xs = stored (a .xs) (m + 10) v;
   fs = stored (a .fs) (n + 10) w;
-  p = stored (a .p) (n + reach) x;
+  p = stored (a .p) (n + places) x;
   out = stored (a .out) n y;
 }
 
@@ -100,7 +100,7 @@ module _ (q : Settings) (n : ℕ) (a : Arrays) where
 
   pub ends : {fs p out : List Float}
       → (fs ≡ set (a .fs) (n + 10) (formant (q .wz) (q .wp) n (a .xs) (a .fs)))
-      × ((p ≡ set (a .p) (n + reach) (formant (q .wz) (q .wp) n (a .xs) (a .fs))) × (out ≡ set (a .out) n (shaped (q .lag) (q .beta) p n)))
+      × ((p ≡ set (a .p) (n + places) (formant (q .wz) (q .wp) n (a .xs) (a .fs))) × (out ≡ set (a .out) n (shaped places (q .lag) (q .beta) p n)))
       → arrays (a .syn) (a .xs) fs p out ≡ ended q n a
   unfolding ended
   ends e = rw (e .1 .1, e .0, e .1 .0)

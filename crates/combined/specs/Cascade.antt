@@ -1,6 +1,6 @@
 -- The combined filter sample by sample: synthesis s[n] = x[n] − Σ aq[k+1] s[n−k−1], formant weighting of s, and harmonic noise shaping of
 -- the weighted f: f[n] − beta f[n−lag]. Each stage hands its sample to the next before the sample after it is begun.
--- §2.12 (eq. 19); document 01, B59. Assumes nothing.
+-- §2.12 (eq. 19); document 01, B59; document 02, E6.4. Assumes nothing.
 use Prim.Native.Nat.{ℕ, suc, _-_}
 use mathlib.Core.List.{List, [], _∷_, _++_}
 use lib.ListN.{length}
@@ -10,6 +10,7 @@ use Rattle.float.specs.Single.{_⊖_, _⊗_}
 use Rattle.float.specs.Vector.{at}
 use Rattle.weighting.specs.Filter.{weighted, later}
 use Rattle.combined.specs.declared.CombinedMem.{CombinedMem}
+use Rattle.combined.specs.Memory.{history}
 
 -- predictor, weighting taps, and the lag and factor of harmonic noise shaping
 pub record Settings : Type 0 where
@@ -52,7 +53,7 @@ unfoldable pub sample : Settings → List Float → ℕ → Cascade → Cascade
 sample q input n c = weigh q (synthesised (q .aq) (at input n) (c .syn)) c
 
 abbrev pub start : CombinedMem → Cascade
-start mem = record { syn = mem .syn; wz = mem .wz; wp = mem .wp; harmonic = mem .«p_hist»; out = [] }
+start mem = record { syn = mem .syn; wz = mem .wz; wp = mem .wp; harmonic = history mem; out = [] }
 
 -- after the first n samples
 abbrev pub cascaded : Settings → List Float → CombinedMem → ℕ → Cascade

@@ -3,40 +3,69 @@ ghost use mathlib.Core.Path.{_≡_};
 ghost use mathlib.Core.Bool.{not};
 ghost use mathlib.Core.List.{_∷_, []};
 ghost use Prim.Native.Nat.{_+_, _<_, _≤_};
-ghost use lib.ListN.{take, drop, set};
+ghost use lib.ListN.{set};
 ghost use Rattle.float.specs.Finite.{notFinite};
 ghost use Rattle.float.specs.Loop.{over};
 ghost use Rattle.float.specs.Refusal.{any, first};
 ghost use Rattle.float.specs.Single.{_⊖_, _⊗_};
 ghost use Rattle.weighting.specs.inner.Delay.{behind};
-ghost use Rattle.combined.specs.Memory.{reach, atRest, floats};
+ghost use Rattle.lag_limit.specs.Limit.{reach};
+ghost use Rattle.harmonic_history.specs.History.{places};
+ghost use Rattle.combined.specs.Memory.{atRest, newMemory, noMemory, floats};
 ghost use Rattle.combined.specs.Cascade.{settings, synthesised, cascaded};
 ghost use Rattle.combined.specs.inner.Step.{arrays, synthetic, formant, sampled, stepped};
 ghost use Rattle.combined.specs.Run.{done, refusal, combinedRefusals, runCombined};
 ghost use Rattle.combined.specs.inner.Shaped.{shaped};
 
-// How many harmonic inputs the history holds: the longest lag.
-pub const REACH: usize = 145;
+// How many places a history has.
+const PLACES: usize = 145;
 
-// The filter's memory: three memories, most recent first, and the history of harmonic inputs, oldest first.
+// The filter's memory: three memories, most recent first; the history of harmonic inputs, oldest first, whose first limit + 3 places are in
+// use; and the limit of its caller's lags, which no call alters.
 pub struct CombinedMem {
     pub syn: [f32; 10],
     pub wz: [f32; 10],
     pub wp: [f32; 10],
-    pub p_hist: [f32; REACH],
+    pub p_hist: [f32; PLACES],
+    pub limit: u32,
+}
+
+// A memory that was asked for.
+pub struct NewMemory {
+    pub status: u32,
+    pub mem: CombinedMem,
+}
+
+fn at_rest(limit: u32) -> CombinedMem
+    ensures { λ r. ⌜ r ≡ atRest limit ⌝ }
+{
+    CombinedMem {
+        syn: [0.0f32; 10],
+        wz: [0.0f32; 10],
+        wp: [0.0f32; 10],
+        p_hist: [0.0f32; PLACES],
+        limit,
+    }
+}
+
+fn no_memory(status: u32) -> NewMemory
+    ensures { λ r. ⌜ r ≡ noMemory status ⌝ }
+{
+    let mem = at_rest(0);
+    NewMemory { status, mem }
 }
 
 impl CombinedMem {
-    // A filter at rest.
-    pub fn new() -> Self
-        ensures { λ r. ⌜ r ≡ atRest ⌝ }
+    // A filter at rest, for lags up to 142 or 82.
+    pub fn new(limit: u32) -> NewMemory
+        ensures { λ r. ⌜ r ≡ newMemory limit ⌝ }
     {
-        Self {
-            syn: [0.0f32; 10],
-            wz: [0.0f32; 10],
-            wp: [0.0f32; 10],
-            p_hist: [0.0f32; REACH],
+        let known = lag_limit::is_known(limit);
+        if !known {
+            return no_memory(2);
         }
+        let mem = at_rest(limit);
+        NewMemory { status: 0, mem }
     }
 }
 
@@ -71,28 +100,6 @@ fn synthesise_sample(x: f32, n: usize, aq: &[f32; 11], syn: &[f32; 70]) -> f32
     s
 }
 
-// The history with room for a subframe after it.
-fn start_history(p_hist: [f32; REACH]) -> [f32; REACH + 60]
-    ensures { λ r. ⌜ take reach r ≡ «p_hist» ⌝ }
-{
-    let mut p = [0.0f32; REACH + 60];
-    for i in 0..REACH {
-        p[i] = p_hist[i];
-    }
-    p
-}
-
-// The history after a subframe.
-fn last_inputs(p: [f32; REACH + 60]) -> [f32; REACH]
-    ensures { λ r. ⌜ r ≡ drop 60 p ⌝ }
-{
-    let mut p_hist = [0.0f32; REACH];
-    for i in 0..REACH {
-        p_hist[i] = p[i + 60];
-    }
-    p_hist
-}
-
 // Sample n begins: it is synthesised, and joins the delay of the synthesis and the one before the weighting.
 fn begin_sample(
     n: usize,
@@ -121,21 +128,21 @@ fn end_sample(
     beta: f32,
     xs: &[f32; 70],
     fs: &mut [f32; 70],
-    p: &mut [f32; REACH + 60],
+    p: &mut [f32; PLACES + 60],
     out: &mut [f32; 60],
 )
-    requires { ⌜ (n < 60) × (lag ≤ reach) ⌝ }
+    requires { ⌜ (n < 60) × (lag ≤ places) ⌝ }
     ensures weighted { λ _. ⌜ now (fs .exit) ≡ set (now (fs .entry)) (n + 10)
         (formant (now (wz .entry)) (now (wp .entry)) n (now (xs .entry)) (now (fs .entry))) ⌝ }
-    ensures harmonic { λ _. ⌜ now (p .exit) ≡ set (now (p .entry)) (n + reach)
+    ensures harmonic { λ _. ⌜ now (p .exit) ≡ set (now (p .entry)) (n + places)
         (formant (now (wz .entry)) (now (wp .entry)) n (now (xs .entry)) (now (fs .entry))) ⌝ }
-    ensures shaped { λ _. ⌜ now (out .exit) ≡ set (now (out .entry)) n (shaped lag beta (now (p .exit)) n) ⌝ }
+    ensures shaped { λ _. ⌜ now (out .exit) ≡ set (now (out .entry)) n (shaped places lag beta (now (p .exit)) n) ⌝ }
 {
     let s = xs[n + 10];
     let f = weighting::weight_sample(s, n, wz, wp, xs, fs);
     fs[n + 10] = f;
-    p[n + REACH] = f;
-    out[n] = take_product(p[n + REACH], beta, p[n + REACH - lag]);
+    p[n + PLACES] = f;
+    out[n] = take_product(p[n + PLACES], beta, p[n + PLACES - lag]);
 }
 
 // One step: sample n ends and the next begins. It alters one number in each of five arrays, at the position that n is.
@@ -150,10 +157,10 @@ fn step(
     syn: &mut [f32; 70],
     xs: &mut [f32; 70],
     fs: &mut [f32; 70],
-    p: &mut [f32; REACH + 60],
+    p: &mut [f32; PLACES + 60],
     out: &mut [f32; 60],
 )
-    requires { ⌜ (n < 59) × (lag ≤ reach) ⌝ }
+    requires { ⌜ (n < 59) × (lag ≤ places) ⌝ }
     ensures { λ _. ⌜ arrays (now (syn .exit)) (now (xs .exit)) (now (fs .exit)) (now (p .exit)) (now (out .exit))
         ≡ stepped (settings (now (aq .entry)) (now (wz .entry)) (now (wp .entry)) lag beta) (now (input .entry)) n
         (arrays (now (syn .entry)) (now (xs .entry)) (now (fs .entry)) (now (p .entry)) (now (out .entry))) ⌝ }
@@ -174,10 +181,10 @@ fn sixty_samples(
     syn: &mut [f32; 70],
     xs: &mut [f32; 70],
     fs: &mut [f32; 70],
-    p: &mut [f32; REACH + 60],
+    p: &mut [f32; PLACES + 60],
     out: &mut [f32; 60],
 )
-    requires { ⌜ lag ≤ reach ⌝ }
+    requires { ⌜ lag ≤ places ⌝ }
     ensures { λ _. ⌜ arrays (now (syn .exit)) (now (xs .exit)) (now (fs .exit)) (now (p .exit)) (now (out .exit))
         ≡ over 0 60 (sampled (settings (now (aq .entry)) (now (wz .entry)) (now (wp .entry)) lag beta) (now (input .entry)))
         (arrays (now (syn .entry)) (now (xs .entry)) (now (fs .entry)) (now (p .entry)) (now (out .entry))) ⌝ }
@@ -200,17 +207,19 @@ fn run(
     lag: u32,
     beta: f32,
 ) -> Combined
-    requires { ⌜ (18 ≤ lag) × (lag ≤ reach) ⌝ }
-    ensures { λ r. ⌜ r ≡ done (cascaded (settings aq wz wp lag beta) input mem 60) ⌝ }
+    requires { ⌜ (mem .limit ≤ 142) × (18 ≤ lag) × (lag ≤ reach (mem .limit)) ⌝ }
+    ensures { λ r. ⌜ r ≡ done mem (cascaded (settings aq wz wp lag beta) input mem 60) ⌝ }
 {
     let syn_mem = mem.syn;
     let wz_mem = mem.wz;
     let wp_mem = mem.wp;
     let p_hist = mem.p_hist;
+    let limit = mem.limit;
+    let reach = limit as usize + 3;
     let mut syn = weighting::start_delay(syn_mem);
     let mut xs = weighting::start_delay(wz_mem);
     let mut fs = weighting::start_delay(wp_mem);
-    let mut p = start_history(p_hist);
+    let mut p = harmonic_history::start(p_hist, reach);
     let mut out = [0.0f32; 60];
     let back = lag as usize;
     sixty_samples(
@@ -230,7 +239,8 @@ fn run(
         syn: weighting::last_ten(&syn),
         wz: weighting::last_ten(&xs),
         wp: weighting::last_ten(&fs),
-        p_hist: last_inputs(p),
+        p_hist: harmonic_history::after(p_hist, p, reach),
+        limit,
     };
     Combined {
         status: 0,
@@ -246,11 +256,13 @@ fn refused(status: u32, mem: CombinedMem) -> Combined
     let wz = mem.wz;
     let wp = mem.wp;
     let p_hist = mem.p_hist;
+    let limit = mem.limit;
     let kept = CombinedMem {
         syn,
         wz,
         wp,
         p_hist,
+        limit,
     };
     Combined {
         status,
@@ -260,14 +272,16 @@ fn refused(status: u32, mem: CombinedMem) -> Combined
 }
 
 fn memory_finite(mem: CombinedMem) -> bool
+    requires { ⌜ mem .limit ≤ 142 ⌝ }
     ensures { λ r. ⌜ r ≡ not (any notFinite (floats mem)) ⌝ }
 {
     let syn = mem.syn;
     let wz = mem.wz;
     let wp = mem.wp;
     let p_hist = mem.p_hist;
-    float::all_finite(&syn)
-        & (float::all_finite(&wz) & (float::all_finite(&wp) & float::all_finite(&p_hist)))
+    let reach = mem.limit as usize + 3;
+    let history = harmonic_history::used_finite(p_hist, reach);
+    float::all_finite(&syn) & (float::all_finite(&wz) & (float::all_finite(&wp) & history))
 }
 
 fn given_finite(input: [f32; 60], aq: [f32; 11], wz: [f32; 10], wp: [f32; 10], beta: f32) -> bool
@@ -277,7 +291,7 @@ fn given_finite(input: [f32; 60], aq: [f32; 11], wz: [f32; 10], wp: [f32; 10], b
     float::all_finite(&input) & (float::all_finite(&aq) & taps)
 }
 
-// The first refusal due: 4 for a lag outside 18..145; 5 for any float.
+// The first refusal due: 2 for a limit that is not known; 4 for a lag outside 18..limit + 3; 5 for any float in use.
 fn check_combined(
     mem: CombinedMem,
     input: [f32; 60],
@@ -289,10 +303,15 @@ fn check_combined(
 ) -> u32
     ensures { λ r. ⌜ r ≡ first (combinedRefusals (settings aq wz wp lag beta) input mem) ⌝ }
 {
+    let limit = mem.limit;
+    let known = lag_limit::is_known(limit);
+    if !known {
+        return 2;
+    }
     if lag < 18 {
         return 4;
     }
-    if lag > 145 {
+    if lag > limit + 3 {
         return 4;
     }
     let finite = memory_finite(mem) & given_finite(input, aq, wz, wp, beta);

@@ -8,6 +8,12 @@ pub memory-finite-spec : {M : Type 1} → statement M
 memory-finite-spec =
     tie.close
     (tie.spec
+    -- cast-reach
+    (λ c. search needs)
+    -- add-reach
+    (λ c. search needs)
+    -- used-finite-requires
+    (λ c κs. search needs)
     -- slice-aggregate-all-finite
     (λ c. search needs)
     -- all-finite-requires
@@ -19,10 +25,6 @@ memory-finite-spec =
     -- slice-aggregate-all-finite-3
     (λ c. search needs)
     -- all-finite-requires-3
-    (λ c κs. search needs)
-    -- slice-aggregate-all-finite-4
-    (λ c. search needs)
-    -- all-finite-requires-4
     (λ c κs. search needs)
     -- returns
     (λ c. search joined depth 9))

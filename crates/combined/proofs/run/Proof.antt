@@ -1,43 +1,50 @@
 -- `combined::run` meets its contract: the arrays hold the memory given, and after sixty samples what the cascade leaves. Assumes nothing.
 use borrow.Author.Needs.{needs}
 use mathlib.Core.Path.{_≡_, refl, ap, _∙_}
-use mathlib.Core.List.{List}
-use Prim.Native.Nat.{_≤_}
+use mathlib.Core.List.{List, _++_}
+use Prim.Native.Nat.{_+_, _-_, _≤_}
 use native.Mathlib.Omega.{arith}
 use lib.ListN.{drop}
 use lib.Ieee.{Float}
 use Rattle.float.specs.Loop.{over}
 use Rattle.float.proofs.Table.{filled-none}
 use Rattle.weighting.specs.inner.Delay.{behind}
+use Rattle.lag_limit.specs.Limit.{reach}
+use Rattle.harmonic_history.specs.History.{places}
 use Rattle.combined.specs.declared.CombinedMem.{CombinedMem}
 use Rattle.combined.specs.declared.Combined.{Combined}
+use Rattle.combined.specs.Memory.{spare}
 use Rattle.combined.specs.Cascade.{Settings, start, cascaded}
 use Rattle.combined.specs.inner.Step.{Arrays, arrays, sampled}
 use Rattle.combined.specs.Run.{done}
-use Rattle.combined.proofs.Stands.{Stands, answer, subframe}
+use Rattle.combined.proofs.Stands.{Stands, held-first, answer, subframe}
 use Rattle.combined.proofs.run.Statement.{statement}
 use Rattle.combined.proofs.run.Tie as tie
 
 -- sixty samples, and what is copied out
-copied : (q : Settings) (input : List Float) (mem : CombinedMem) (held last : Arrays) {m₁ m₂ m₃ history : List Float}
-    → 18 ≤ q .lag → Stands q 0 (start mem) held → last ≡ over 0 60 (sampled q input) held
-    → m₁ ≡ behind 60 (last .syn) → m₂ ≡ behind 60 (last .xs) → m₃ ≡ behind 60 (last .fs) → history ≡ drop 60 (last .p)
-    → _≡_ {A = Combined} (record { status = 0; out = last .out; mem = record { syn = m₁; wz = m₂; wp = m₃; «p_hist» = history } })
-    (done (cascaded q input mem 60))
-copied q input mem held last low r e e₁ e₂ e₃ eh =
-    rw (e₁, e₂, e₃, eh) (ap answer e ∙ subframe q input mem (omega arith) held r)
+copied : (q : Settings) (input : List Float) (mem : CombinedMem) (held last : Arrays) {m₁ m₂ m₃ kept : List Float}
+    → mem .limit ≤ 142 → 18 ≤ q .lag → q .lag ≤ reach (mem .limit) → Stands (reach (mem .limit)) q 0 (start mem) held → last ≡ over 0 60 (sampled q input) held
+    → m₁ ≡ behind 60 (last .syn) → m₂ ≡ behind 60 (last .xs) → m₃ ≡ behind 60 (last .fs) → kept ≡ drop (places + 60 - reach (mem .limit)) (last .p) ++ spare mem
+    → _≡_ {A = Combined} (record { status = 0; out = last .out; mem = record { syn = m₁; wz = m₂; wp = m₃; «p_hist» = kept; limit = mem .limit } })
+    (done mem (cascaded q input mem 60))
+copied q input mem held last most low high r e e₁ e₂ e₃ eh =
+    rw (e₁, e₂, e₃, eh) (ap (answer mem) e ∙ subframe q input mem most (omega arith) high held r)
 
 pub run-spec : {M : Type 1} → statement M
 run-spec =
     tie.close
     (tie.spec
+    -- cast-reach
+    (λ c. search needs)
+    -- add-reach
+    (λ c. search needs)
     -- start-delay-requires
     (λ c κs. search needs)
     -- start-delay-requires-2
     (λ c κs. search needs)
     -- start-delay-requires-3
     (λ c κs. search needs)
-    -- start-history-requires
+    -- start-requires
     (λ c κs. search needs)
     -- sixty-samples-requires
     (λ c κs. search needs)
@@ -47,8 +54,14 @@ run-spec =
     (λ c κs. search needs)
     -- last-ten-requires-3
     (λ c κs. search needs)
-    -- last-inputs-requires
-    (λ c κs. search needs)
+    -- after-requires
+    (λ c κs.
+    -- past the last calls, and past what is lent and copied in before the sixty samples
+    let sixty = c .before .before .before .before .before .before in
+    let history = sixty .before .before .before .before .before .before .before .before .before .before in
+    let delay₁ = history .before .before .before in
+    let given = delay₁ .before .before .before .before .before in
+    omega (arith, given .pre .0))
     -- returns
     (λ c.
     -- from the last call back to the start
@@ -63,15 +76,15 @@ run-spec =
     let delay₂ = delay₃ .before in
     let delay₁ = delay₂ .before in
     let given = delay₁ .before .before .before .before .before in
-    let held = arrays (delay₁ .start-delay .result) (delay₂ .start-delay2 .result) (delay₃ .start-delay3 .result) (history .start-history .result) _ in
-    copied _ _ _ held _ (given .pre .0)
+    let held = arrays (delay₁ .start-delay .result) (delay₂ .start-delay2 .result) (delay₃ .start-delay3 .result) (history .start .result) _ in
+    copied _ _ _ held _ (given .pre .0) (given .pre .1) (given .pre .2)
     (record {
       syn = record { long = search (needs, delay₁ .start-delay .ok); held = delay₁ .start-delay .ensures };
       wz = record { long = search (needs, delay₂ .start-delay2 .ok); held = delay₂ .start-delay2 .ensures };
       wp = record { long = search (needs, delay₃ .start-delay3 .ok); held = delay₃ .start-delay3 .ensures };
-      long = search (needs, history .start-history .ok);
-      harmonic = history .start-history .ensures;
+      long = search (needs, history .start .ok);
+      harmonic = held-first (reach (given .args .mem .limit)) (history .start .result) (history .start .ensures);
       out = filled-none 60 _ _ refl;
     })
     (sixty .sixty-samples .ensures)
-    (memory₁ .last-ten .ensures) (memory₂ .last-ten2 .ensures) (memory₃ .last-ten3 .ensures) (c .last-inputs .ensures)))
+    (memory₁ .last-ten .ensures) (memory₂ .last-ten2 .ensures) (memory₃ .last-ten3 .ensures) (c .after .ensures)))

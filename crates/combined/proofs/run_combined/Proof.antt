@@ -1,25 +1,36 @@
 -- `combined::run_combined` meets its contract: the refusal that the check names, or the filter's answer. Assumes nothing.
 use borrow.Author.Needs.{needs}
-use borrow.Author.Tests.{ltb-false}
+use borrow.Author.Tests.{ltb-false, not-false}
 use mathlib.Core.Path.{_≡_}
-use mathlib.Core.Bool.{false, cond}
+use mathlib.Core.Bool.{Bool, false, not}
+use mathlib.Core.List.{[], _∷_}
 use Prim.Native.Nat.{ℕ, _≤_}
 use lib.Dec.{ltb}
-use Rattle.float.proofs.Refusal.{answer-refused, answer-done, shown-first, or-clear}
-use Rattle.combined.specs.Memory.{reach}
+use Rattle.float.specs.Refusal.{first}
+use Rattle.float.proofs.Refusal.{answer-refused, answer-done, clear, or-clear}
+use Rattle.lag_limit.specs.Limit.{known, reach}
+use Rattle.lag_limit.proofs.Known.{known-within}
 use Rattle.combined.specs.Run.{wrongLag, runCombined}
 use Rattle.combined.proofs.run_combined.Statement.{statement}
 use Rattle.combined.proofs.run_combined.Tie as tie
 
--- what the check has shown of the lag, whatever its other tests
-module _ (lag rest s : ℕ) (e : s ≡ cond (wrongLag lag) 4 rest) (h : s ≡ 0) where
-  right : (ltb lag 18 ≡ false) × (ltb reach lag ≡ false)
-  right = or-clear (ltb lag 18) (ltb reach lag) (shown-first (wrongLag lag) 3 rest s e h)
+-- what the check has shown of the limit and of the lag, whatever its last test
+module _ (limit lag s : ℕ) (b : Bool) (e : s ≡ first ((2, not (known limit)) ∷ (4, wrongLag limit lag) ∷ (5, b) ∷ [])) (h : s ≡ 0) where
+  shown : (not (known limit) ≡ false) × (wrongLag limit lag ≡ false)
+  shown =
+      let z = clear ((2, not (known limit)) ∷ (4, wrongLag limit lag) ∷ (5, b) ∷ []) tt e h in
+      (z .0, z .1 .0)
+
+  most : limit ≤ 142
+  most = known-within limit (not-false _ (shown .0)) .1
+
+  right : (ltb lag 18 ≡ false) × (ltb (reach limit) lag ≡ false)
+  right = or-clear (ltb lag 18) (ltb (reach limit) lag) (shown .1)
 
   low : 18 ≤ lag
   low = ltb-false _ _ (right .0)
 
-  high : lag ≤ reach
+  high : lag ≤ reach limit
   high = ltb-false _ _ (right .1)
 
 pub run-combined-spec : {M : Type 1} → statement M
@@ -34,6 +45,6 @@ run-combined-spec =
     -- returns
     (λ c. search answer-refused)
     -- run-requires
-    (λ c κs. (search low, search high))
+    (λ c κs. (search most, search low, search high))
     -- returns-2
     (λ c. search answer-done))

@@ -5,8 +5,7 @@ use mathlib.Core.List.{List}
 use lib.Ieee.{Float}
 use Rattle.float.specs.Single.{_⊖_, _⊗_}
 use Rattle.float.specs.Vector.{at}
-use Rattle.combined.specs.Memory.{reach}
 
--- the history with the harmonic inputs of a subframe after it, shaped at sample n
-abbrev pub shaped : ℕ → Float → List Float → ℕ → Float
-shaped lag beta p n = at p (n + reach) ⊖ beta ⊗ at p (n + reach - lag)
+-- m values before a subframe with its harmonic inputs after them, shaped at sample n
+abbrev pub shaped : ℕ → ℕ → Float → List Float → ℕ → Float
+shaped m lag beta p n = at p (n + m) ⊖ beta ⊗ at p (n + m - lag)

@@ -9,12 +9,12 @@ use lib.Ieee.{Float}
 use Rattle.float.specs.Vector.{at}
 use Rattle.weighting.specs.Filter.{weighted}
 use Rattle.weighting.specs.inner.Delay.{behind}
-use Rattle.combined.specs.Memory.{reach}
+use Rattle.harmonic_history.specs.History.{places}
 use Rattle.combined.specs.Cascade.{Settings, synthesised}
 use Rattle.combined.specs.inner.Shaped.{shaped}
 
 -- a delay of the synthesis, one of its samples before the weighting and one of weighted samples, ten values of memory first in each; all
--- harmonic inputs, those of the history first; and the outputs
+-- harmonic inputs, those of the history up to place 144; and the outputs
 pub record Arrays : Type 0 where
   pub syn : List Float
   pub xs : List Float
@@ -42,8 +42,8 @@ begun q input n a =
 unfoldable pub ended : Settings → ℕ → Arrays → Arrays
 ended q n a =
     let f = formant (q .wz) (q .wp) n (a .xs) (a .fs) in
-    let p = set (a .p) (n + reach) f in
-    arrays (a .syn) (a .xs) (set (a .fs) (n + 10) f) p (set (a .out) n (shaped (q .lag) (q .beta) p n))
+    let p = set (a .p) (n + places) f in
+    arrays (a .syn) (a .xs) (set (a .fs) (n + 10) f) p (set (a .out) n (shaped places (q .lag) (q .beta) p n))
 
 -- one sample, from its beginning to its end
 unfoldable pub sampled : Settings → List Float → ℕ → Arrays → Arrays
@@ -63,7 +63,7 @@ pub record AltersOne (m n : ℕ) (before after : Arrays) : Type 0 where
   pub syn : AtMostOne (m + 10) (before .syn) (after .syn)
   pub xs : AtMostOne (m + 10) (before .xs) (after .xs)
   pub fs : AtMostOne (n + 10) (before .fs) (after .fs)
-  pub p : AtMostOne (n + reach) (before .p) (after .p)
+  pub p : AtMostOne (n + places) (before .p) (after .p)
   pub out : AtMostOne n (before .out) (after .out)
 
 -- lists that are equal at every place before this one
@@ -75,5 +75,5 @@ pub record Stays (m n : ℕ) (before after : Arrays) : Type 0 where
   pub syn : EqualBefore (m + 10) (before .syn) (after .syn)
   pub xs : EqualBefore (m + 10) (before .xs) (after .xs)
   pub fs : EqualBefore (n + 10) (before .fs) (after .fs)
-  pub p : EqualBefore (n + reach) (before .p) (after .p)
+  pub p : EqualBefore (n + places) (before .p) (after .p)
   pub out : EqualBefore n (before .out) (after .out)
