@@ -36,7 +36,8 @@ pub struct NewMemory {
     pub mem: CombinedMem,
 }
 
-fn at_rest(limit: u32) -> CombinedMem
+// A memory at rest, of any limit: the filter refuses one that is not known.
+pub fn at_rest(limit: u32) -> CombinedMem
     ensures { λ r. ⌜ r ≡ atRest limit ⌝ }
 {
     CombinedMem {

@@ -1,5 +1,6 @@
--- The combined filter's response to the unit impulse, from rest.
--- §2.12; document 01, B59. Assumes nothing.
+-- The combined filter's response to the unit impulse, from rest, for the lags of a limit.
+-- §2.12; document 01, B59; document 02, E6.5, E6.9 and E6.10. Assumes nothing.
+use Prim.Native.Nat.{ℕ}
 use mathlib.Core.List.{List, _∷_}
 use lib.Ieee.{Float}
 use Rattle.float.specs.Single.{single}
@@ -12,6 +13,6 @@ use Rattle.combined.specs.Run.{runCombined, answered}
 abbrev pub impulse : List Float
 impulse = single 1 1 ∷ zeros 59
 
--- from rest on the unit impulse
-unfoldable pub impulseResponse : Settings → CombinedOut
-impulseResponse q = answered (runCombined q impulse atRest)
+-- from rest on the unit impulse; the filter looks at the limit first
+unfoldable pub impulseResponse : ℕ → Settings → CombinedOut
+impulseResponse limit q = answered (runCombined q impulse (atRest limit))

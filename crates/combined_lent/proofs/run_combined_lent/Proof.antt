@@ -73,7 +73,7 @@ use Rattle.combined_lent.proofs.run_combined_lent.Code.Mir as steps
 kept : (q : Settings) (input : List Float) (mem : CombinedMem) → T (not (eqb (runCombined q input mem .status) 0)) → mem ≡ runCombined q input mem .mem
 unfolding runCombined
 kept q input mem t =
-    let refused = was-refused (λ (c : Combined). c .status) (due (combinedRefusals q input mem)) (refusal mem) (finished (cascaded q input mem 60)) refl
+    let refused = was-refused (λ (c : Combined). c .status) (due (combinedRefusals q input mem)) (refusal mem) (finished mem (cascaded q input mem 60)) refl
     (λ e. subst (λ (n : ℕ). T (not (eqb n 0))) e t) in
     sym (ap (λ (c : Combined). c .mem) refused)
 

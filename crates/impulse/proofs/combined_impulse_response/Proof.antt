@@ -2,6 +2,7 @@
 use borrow.Author.Needs.{needs}
 use mathlib.Core.Path.{_≡_, refl, ap, _∙_}
 use mathlib.Core.List.{List, _∷_}
+use Prim.Native.Nat.{ℕ}
 use lib.Ieee.{Float, binary32, ofBits, round}
 use lib.ListN.{replicate}
 use Rattle.float.specs.Single.{single}
@@ -19,12 +20,12 @@ delta : ofBits binary32 1065353216 ∷ replicate 59 (ofBits binary32 0) ≡ impu
 unfolding single round ofBits
 delta = refl
 
-rested : (q : Settings) (mem : CombinedMem) (r : Combined) → mem ≡ atRest
+rested : (limit : ℕ) (q : Settings) (mem : CombinedMem) (r : Combined) → mem ≡ atRest limit
     → r ≡ runCombined q (ofBits binary32 1065353216 ∷ replicate 59 (ofBits binary32 0)) mem
-    → answered r ≡ impulseResponse q
+    → answered r ≡ impulseResponse limit q
 unfolding impulseResponse
-rested q mem r e f =
-    let g : r ≡ runCombined q impulse atRest = f ∙ rw (delta, e) in
+rested limit q mem r e f =
+    let g : r ≡ runCombined q impulse (atRest limit) = f ∙ rw (delta, e) in
     ap answered g
 
 pub combined-impulse-response-spec : {M : Type 1} → statement M
@@ -33,7 +34,7 @@ combined-impulse-response-spec =
     (tie.spec
     -- array-write-delta
     (λ c. search needs)
-    -- new-requires
+    -- at-rest-requires
     (λ c κs. search needs)
     -- run-combined-requires
     (λ c κs. search needs)
