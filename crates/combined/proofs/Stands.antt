@@ -150,12 +150,12 @@ module _ (q : Settings) (input : List Float) (mem : CombinedMem) (most : mem .li
       let inputs : drop d (a .p) ≡ k .harmonic = sym (take-all (m + 60) (drop d (a .p)) whole) ∙ r .harmonic in
       let filled : a .out ≡ table 60 (shaped places (q .lag) (q .beta) (a .p)) = filled-all 60 _ 60 (a .out) (le-refl 60) (r .out) in
       let outputs : a .out ≡ k .out =
-        filled ∙ shaped-later m (q .lag) (q .beta) (a .p) (omega arith) high
-        ∙ rw inputs (sym (out-shaped q input mem full low 60)) in
+      filled ∙ shaped-later m (q .lag) (q .beta) (a .p) (omega arith) high
+      ∙ rw inputs (sym (out-shaped q input mem full low 60)) in
       let sixty : length (k .harmonic) - m ≡ 60 = omega (arith, harmonic-length q input mem full 60) in
       let at : places + 60 - m ≡ d + 60 = omega arith in
       let kept : drop (places + 60 - m) (a .p) ≡ drop 60 (k .harmonic) =
-        ap (λ (n : ℕ). drop n (a .p)) at ∙ sym (drop-drop 60 d (a .p)) ∙ ap (drop 60) inputs in
+      ap (λ (n : ℕ). drop n (a .p)) at ∙ sym (drop-drop 60 d (a .p)) ∙ ap (drop 60) inputs in
       rw (kept, sixty, outputs, r .syn .held, r .wz .held, r .wp .held)
 
   -- from arrays that hold the memory given

@@ -2,6 +2,7 @@
 -- history of harmonic inputs, oldest first; and the limit of its caller's lags, which says how much of the history is in use.
 -- §2.12 (eq. 19), with §2.19; document 01, B60, B61 and I7; document 02, E6.3, E6.4 and E6.10. Assumes nothing.
 use Prim.Native.Nat.{ℕ}
+use mathlib.Core.Path.{_≡_}
 use mathlib.Core.Bool.{not}
 use mathlib.Core.List.{List, [], _∷_}
 use lib.Ieee.{Float}
@@ -19,6 +20,14 @@ history mem = used (reach (mem .limit)) (mem .«p_hist»)
 -- the places that are neither read nor altered
 abbrev pub spare : CombinedMem → List Float
 spare mem = unused (reach (mem .limit)) (mem .«p_hist»)
+
+-- memories that differ at most in those
+pub record Alike (mem other : CombinedMem) : Type 0 where
+  pub syn : mem .syn ≡ other .syn
+  pub wz : mem .wz ≡ other .wz
+  pub wp : mem .wp ≡ other .wp
+  pub history : history mem ≡ history other
+  pub limit : mem .limit ≡ other .limit
 
 -- every float of a memory that is in use
 abbrev pub floats : CombinedMem → List (List Float)

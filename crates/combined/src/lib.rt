@@ -215,8 +215,8 @@ fn run(
     let wz_mem = mem.wz;
     let wp_mem = mem.wp;
     let p_hist = mem.p_hist;
-    let limit = mem.limit;
-    let reach = limit as usize + 3;
+    let own_limit = mem.limit;
+    let reach = own_limit as usize + 3;
     let mut syn = weighting::start_delay(syn_mem);
     let mut xs = weighting::start_delay(wz_mem);
     let mut fs = weighting::start_delay(wp_mem);
@@ -241,7 +241,7 @@ fn run(
         wz: weighting::last_ten(&xs),
         wp: weighting::last_ten(&fs),
         p_hist: harmonic_history::after(p_hist, p, reach),
-        limit,
+        limit: own_limit,
     };
     Combined {
         status: 0,
@@ -305,8 +305,8 @@ fn check_combined(
     ensures { λ r. ⌜ r ≡ first (combinedRefusals (settings aq wz wp lag beta) input mem) ⌝ }
 {
     let limit = mem.limit;
-    let known = lag_limit::is_known(limit);
-    if !known {
+    let right = lag_limit::is_known(limit);
+    if !right {
         return 2;
     }
     if lag < 18 {

@@ -30,6 +30,6 @@ copied-more a b n count source i out j k e f h l m r =
       most = omega arith;
       long = length-set out (b + i) v ∙ r .long;
       same =
-        rw (add-one i, drop-set-add b out i v, take-suc-set (drop b out) i v to, r .same, ← getD-drop a source i nan)
-        (sym (take-suc (drop a source) i nan of));
+          rw (add-one i, drop-set-add b out i v, take-suc-set (drop b out) i v to, r .same, ← getD-drop a source i nan)
+          (sym (take-suc (drop a source) i nan of));
     })

@@ -28,8 +28,8 @@ module _ (h p : List Float) (reach i : ℕ) (kept : List Float) (full : length p
   more : i < reach → Kept reach h p (i + 1) (set kept i (getD p (places + 60 - reach + i) nan))
   more l = record {
     copied =
-      copied-more (places + 60 - reach) 0 places reach p i kept (places + 60 - reach + i) i refl (omega arith)
-      (omega arith) (omega arith) l (r .copied);
+        copied-more (places + 60 - reach) 0 places reach p i kept (places + 60 - reach + i) i refl (omega arith)
+        (omega arith) (omega arith) l (r .copied);
     rest = drop-set-lt reach kept i _ l ∙ r .rest;
   }
 
@@ -37,7 +37,7 @@ module _ (h p : List Float) (reach i : ℕ) (kept : List Float) (full : length p
   all l =
       let e : i ≡ reach = omega (arith, r .copied .most) in
       let first : take reach kept ≡ drop (places + 60 - reach) p =
-        rw e at (r .copied .same) ∙ take-all reach (drop (places + 60 - reach) p) (simp length-drop (omega arith)) in
+      rw e at (r .copied .same) ∙ take-all reach (drop (places + 60 - reach) p) (simp length-drop (omega arith)) in
       sym (take-append-drop reach kept)
       ∙ ap (λ (x : List Float). x ++ drop reach kept) first
       ∙ ap (λ (y : List Float). drop (places + 60 - reach) p ++ y) (r .rest)
