@@ -16,6 +16,7 @@ ghost use Rattle.spec_tables.specs.Codebook.{lspRows};
 ghost use Rattle.spec_lsp.specs.Quantise.{quantiseLspFreq};
 ghost use Rattle.spec_lsp.specs.Decode.{decodeLspFreq};
 ghost use Rattle.lsp_index.specs.Index.{split, combine};
+ghost use Rattle.combined.specs.Memory.{newMemory};
 ghost use Rattle.combined.specs.Cascade.{settings};
 ghost use Rattle.combined.specs.Run.{runCombined};
 ghost use Rattle.impulse.specs.Impulse.{impulseResponse};
@@ -317,8 +318,43 @@ pub extern "C" fn g7231_combine_lsp_index(bands: &[u8; 3], index: &mut u32) -> u
     0
 }
 
+// The fields of a memory at rest. It computes no float, and has a bare form since its struct is taken in parts.
+#[no_mangle]
+pub extern "C" fn g7231_bare_new_filter_memory(
+    limit: u32,
+    lag_limit: &mut u32,
+    syn: &mut [f32; 10],
+    wz_mem: &mut [f32; 10],
+    wp_mem: &mut [f32; 10],
+    p_hist: &mut [f32; 145],
+) -> u32
+    ensures status { λ r. ⌜ r ≡ newMemory limit .status ⌝ }
+    ensures limit { λ r. ⌜ now («lag_limit» .exit) ≡ lent r (now («lag_limit» .entry)) (newMemory limit .mem .limit) ⌝ }
+    ensures synthesis { λ r. ⌜ now (syn .exit) ≡ lent r (now (syn .entry)) (newMemory limit .mem .syn) ⌝ }
+    ensures zeros { λ r. ⌜ now («wz_mem» .exit) ≡ lent r (now («wz_mem» .entry)) (newMemory limit .mem .wz) ⌝ }
+    ensures poles { λ r. ⌜ now («wp_mem» .exit) ≡ lent r (now («wp_mem» .entry)) (newMemory limit .mem .wp) ⌝ }
+    ensures history { λ r. ⌜ now («p_hist» .exit) ≡ lent r (now («p_hist» .entry)) (newMemory limit .mem .«p_hist») ⌝ }
+{
+    let answer = combined::CombinedMem::new(limit);
+    let status = answer.status;
+    if status == 0 {
+        let made = answer.mem;
+        let made_syn = made.syn;
+        let made_wz = made.wz;
+        let made_wp = made.wp;
+        let made_hist = made.p_hist;
+        *lag_limit = made.limit;
+        *syn = made_syn;
+        *wz_mem = made_wz;
+        *wp_mem = made_wp;
+        *p_hist = made_hist;
+    }
+    status
+}
+
 #[no_mangle]
 pub extern "C" fn g7231_bare_run_combined(
+    lag_limit: u32,
     syn: &mut [f32; 10],
     wz_mem: &mut [f32; 10],
     wp_mem: &mut [f32; 10],
@@ -331,12 +367,12 @@ pub extern "C" fn g7231_bare_run_combined(
     beta: f32,
     out: &mut [f32; 60],
 ) -> u32
-    ensures status { λ r. ⌜ r ≡ runCombined (settings (now (aq .entry)) (now (wz .entry)) (now (wp .entry)) lag beta) (now (input .entry)) (memory (now (syn .entry)) (now («wz_mem» .entry)) (now («wp_mem» .entry)) (now («p_hist» .entry))) .status ⌝ }
-    ensures synthesis { λ r. ⌜ now (syn .exit) ≡ lent r (now (syn .entry)) (runCombined (settings (now (aq .entry)) (now (wz .entry)) (now (wp .entry)) lag beta) (now (input .entry)) (memory (now (syn .entry)) (now («wz_mem» .entry)) (now («wp_mem» .entry)) (now («p_hist» .entry))) .mem .syn) ⌝ }
-    ensures zeros { λ r. ⌜ now («wz_mem» .exit) ≡ lent r (now («wz_mem» .entry)) (runCombined (settings (now (aq .entry)) (now (wz .entry)) (now (wp .entry)) lag beta) (now (input .entry)) (memory (now (syn .entry)) (now («wz_mem» .entry)) (now («wp_mem» .entry)) (now («p_hist» .entry))) .mem .wz) ⌝ }
-    ensures poles { λ r. ⌜ now («wp_mem» .exit) ≡ lent r (now («wp_mem» .entry)) (runCombined (settings (now (aq .entry)) (now (wz .entry)) (now (wp .entry)) lag beta) (now (input .entry)) (memory (now (syn .entry)) (now («wz_mem» .entry)) (now («wp_mem» .entry)) (now («p_hist» .entry))) .mem .wp) ⌝ }
-    ensures history { λ r. ⌜ now («p_hist» .exit) ≡ lent r (now («p_hist» .entry)) (runCombined (settings (now (aq .entry)) (now (wz .entry)) (now (wp .entry)) lag beta) (now (input .entry)) (memory (now (syn .entry)) (now («wz_mem» .entry)) (now («wp_mem» .entry)) (now («p_hist» .entry))) .mem .«p_hist») ⌝ }
-    ensures samples { λ r. ⌜ now (out .exit) ≡ lent r (now (out .entry)) (runCombined (settings (now (aq .entry)) (now (wz .entry)) (now (wp .entry)) lag beta) (now (input .entry)) (memory (now (syn .entry)) (now («wz_mem» .entry)) (now («wp_mem» .entry)) (now («p_hist» .entry))) .out) ⌝ }
+    ensures status { λ r. ⌜ r ≡ runCombined (settings (now (aq .entry)) (now (wz .entry)) (now (wp .entry)) lag beta) (now (input .entry)) (memory «lag_limit» (now (syn .entry)) (now («wz_mem» .entry)) (now («wp_mem» .entry)) (now («p_hist» .entry))) .status ⌝ }
+    ensures synthesis { λ r. ⌜ now (syn .exit) ≡ lent r (now (syn .entry)) (runCombined (settings (now (aq .entry)) (now (wz .entry)) (now (wp .entry)) lag beta) (now (input .entry)) (memory «lag_limit» (now (syn .entry)) (now («wz_mem» .entry)) (now («wp_mem» .entry)) (now («p_hist» .entry))) .mem .syn) ⌝ }
+    ensures zeros { λ r. ⌜ now («wz_mem» .exit) ≡ lent r (now («wz_mem» .entry)) (runCombined (settings (now (aq .entry)) (now (wz .entry)) (now (wp .entry)) lag beta) (now (input .entry)) (memory «lag_limit» (now (syn .entry)) (now («wz_mem» .entry)) (now («wp_mem» .entry)) (now («p_hist» .entry))) .mem .wz) ⌝ }
+    ensures poles { λ r. ⌜ now («wp_mem» .exit) ≡ lent r (now («wp_mem» .entry)) (runCombined (settings (now (aq .entry)) (now (wz .entry)) (now (wp .entry)) lag beta) (now (input .entry)) (memory «lag_limit» (now (syn .entry)) (now («wz_mem» .entry)) (now («wp_mem» .entry)) (now («p_hist» .entry))) .mem .wp) ⌝ }
+    ensures history { λ r. ⌜ now («p_hist» .exit) ≡ lent r (now («p_hist» .entry)) (runCombined (settings (now (aq .entry)) (now (wz .entry)) (now (wp .entry)) lag beta) (now (input .entry)) (memory «lag_limit» (now (syn .entry)) (now («wz_mem» .entry)) (now («wp_mem» .entry)) (now («p_hist» .entry))) .mem .«p_hist») ⌝ }
+    ensures samples { λ r. ⌜ now (out .exit) ≡ lent r (now (out .entry)) (runCombined (settings (now (aq .entry)) (now (wz .entry)) (now (wp .entry)) lag beta) (now (input .entry)) (memory «lag_limit» (now (syn .entry)) (now («wz_mem» .entry)) (now («wp_mem» .entry)) (now («p_hist» .entry))) .out) ⌝ }
 {
     let mem_syn = *syn;
     let mem_wz = *wz_mem;
@@ -347,6 +383,7 @@ pub extern "C" fn g7231_bare_run_combined(
         wz: mem_wz,
         wp: mem_wp,
         p_hist: mem_hist,
+        limit: lag_limit,
     };
     let x = *input;
     let a = *aq;
@@ -372,6 +409,7 @@ pub extern "C" fn g7231_bare_run_combined(
 
 #[no_mangle]
 pub extern "C" fn g7231_bare_combined_impulse_response(
+    limit: u32,
     aq: &[f32; 11],
     wz: &[f32; 10],
     wp: &[f32; 10],
@@ -379,13 +417,13 @@ pub extern "C" fn g7231_bare_combined_impulse_response(
     beta: f32,
     out: &mut [f32; 60],
 ) -> u32
-    ensures status { λ r. ⌜ r ≡ impulseResponse (settings (now (aq .entry)) (now (wz .entry)) (now (wp .entry)) lag beta) .status ⌝ }
-    ensures samples { λ r. ⌜ now (out .exit) ≡ lent r (now (out .entry)) (impulseResponse (settings (now (aq .entry)) (now (wz .entry)) (now (wp .entry)) lag beta) .out) ⌝ }
+    ensures status { λ r. ⌜ r ≡ impulseResponse limit (settings (now (aq .entry)) (now (wz .entry)) (now (wp .entry)) lag beta) .status ⌝ }
+    ensures samples { λ r. ⌜ now (out .exit) ≡ lent r (now (out .entry)) (impulseResponse limit (settings (now (aq .entry)) (now (wz .entry)) (now (wp .entry)) lag beta) .out) ⌝ }
 {
     let a = *aq;
     let zeros = *wz;
     let poles = *wp;
-    let answer = impulse::combined_impulse_response(a, zeros, poles, lag, beta);
+    let answer = impulse::combined_impulse_response(limit, a, zeros, poles, lag, beta);
     let status = answer.status;
     if status == 0 {
         let samples = answer.out;
