@@ -89,6 +89,7 @@ fn combined_refused() -> bool {
     let mut p_hist = [buffers::MARK; 145];
     let mut out = [buffers::MARK; 60];
     let refused = c_api::g7231_bare_run_combined(
+        82,
         &mut syn,
         &mut wz,
         &mut wp,
@@ -97,7 +98,7 @@ fn combined_refused() -> bool {
         &aq,
         &zeros,
         &poles,
-        146,
+        86,
         0.25,
         &mut out,
     );
@@ -120,10 +121,12 @@ fn combined_done() -> bool {
         wz,
         wp,
         p_hist,
+        limit: 82,
     };
     let mut out = [buffers::MARK; 60];
     let want = combined::run_combined(mem, x, aq, zeros, poles, 40, 0.25);
     let done = c_api::g7231_bare_run_combined(
+        82,
         &mut syn,
         &mut wz,
         &mut wp,
@@ -155,15 +158,45 @@ pub fn combined() -> bool {
     refused & done
 }
 
+// A memory at rest, for lags up to 82; another limit is refused.
+pub fn new_memory() -> bool {
+    let mut limit = 77;
+    let mut syn = buffers::marked();
+    let mut wz = buffers::marked();
+    let mut wp = buffers::marked();
+    let mut p_hist = [buffers::MARK; 145];
+    let refused = c_api::g7231_bare_new_filter_memory(
+        83,
+        &mut limit,
+        &mut syn,
+        &mut wz,
+        &mut wp,
+        &mut p_hist,
+    );
+    let kept = memory_kept(syn, wz, wp, p_hist) & (limit == 77);
+    let done = c_api::g7231_bare_new_filter_memory(
+        82,
+        &mut limit,
+        &mut syn,
+        &mut wz,
+        &mut wp,
+        &mut p_hist,
+    );
+    let none = [0.0f32; 10];
+    let taps = buffers::ten(wz, none) & buffers::ten(wp, none);
+    let rest = buffers::ten(syn, none) & taps & buffers::history(p_hist, [0.0f32; 145]);
+    (refused == 2) & kept & (done == 0) & (limit == 82) & rest
+}
+
 pub fn response() -> bool {
     let aq = buffers::filter();
     let wz = buffers::cosines();
     let wp = buffers::other_cosines();
     let mut out = [buffers::MARK; 60];
-    let refused = c_api::g7231_bare_combined_impulse_response(&aq, &wz, &wp, 17, 0.25, &mut out);
+    let refused = c_api::g7231_bare_combined_impulse_response(82, &aq, &wz, &wp, 86, 0.25, &mut out);
     let kept = buffers::sixty(out, [buffers::MARK; 60]);
-    let done = c_api::g7231_bare_combined_impulse_response(&aq, &wz, &wp, 40, 0.25, &mut out);
-    let want = impulse::combined_impulse_response(aq, wz, wp, 40, 0.25);
+    let done = c_api::g7231_bare_combined_impulse_response(82, &aq, &wz, &wp, 40, 0.25, &mut out);
+    let want = impulse::combined_impulse_response(82, aq, wz, wp, 40, 0.25);
     let samples = want.out;
     let same = buffers::sixty(out, samples);
     (refused == 4) & kept & (done == 0) & same

@@ -53,6 +53,7 @@ fn sample_doors(tally: Tally) -> Tally {
     let t = door(t, b"harmonic_noise_shaping", samples::shaping());
     let t = door(t, b"weighting_taps", frames::taps());
     let t = door(t, b"weight_subframe", frames::weight());
+    let t = door(t, b"new_filter_memory", frames::new_memory());
     let t = door(t, b"run_combined", frames::combined());
     door(t, b"combined_impulse_response", frames::response())
 }

@@ -45,11 +45,12 @@ pub fn length_of(words: &[u32; 1024]) -> usize {
         11 => with_samples(words[1], 123),
         12 => with_samples(words[1], 6),
         13 => with_samples(words[1], 8),
-        14 => 505,
-        15 => 95,
+        14 => 506,
+        15 => 96,
         16 => 187,
         17 => with_samples(words[186], 429),
         18 | 19 => 6,
+        25 => 179,
         _ => 0,
     }
 }
@@ -77,6 +78,7 @@ pub fn agrees(words: &[u32; 1024]) -> bool {
         17 => code_frame(words),
         18 => split_lsp_index(words),
         19 => combine_lsp_index(words),
+        25 => new_filter_memory(words),
         _ => false,
     }
 }
@@ -278,53 +280,69 @@ fn run_combined(words: &[u32; 1024]) -> bool {
     let mut aq = [0.0f32; 11];
     let mut wz = [0.0f32; 10];
     let mut wp = [0.0f32; 10];
-    load(words, 1, &mut syn);
-    load(words, 11, &mut wz_mem);
-    load(words, 21, &mut wp_mem);
-    load(words, 31, &mut p_hist);
-    load(words, 176, &mut input);
-    load(words, 236, &mut aq);
-    load(words, 247, &mut wz);
-    load(words, 257, &mut wp);
+    load(words, 2, &mut syn);
+    load(words, 12, &mut wz_mem);
+    load(words, 22, &mut wp_mem);
+    load(words, 32, &mut p_hist);
+    load(words, 177, &mut input);
+    load(words, 237, &mut aq);
+    load(words, 248, &mut wz);
+    load(words, 258, &mut wp);
+    let limit = words[1];
     let mem = combined::CombinedMem {
         syn,
         wz: wz_mem,
         wp: wp_mem,
         p_hist,
+        limit,
     };
-    let beta = float::of_bits(words[268]);
-    let answer = combined_lent::run_combined_lending(mem, input, aq, wz, wp, words[267], beta);
+    let beta = float::of_bits(words[269]);
+    let answer = combined_lent::run_combined_lending(mem, input, aq, wz, wp, words[268], beta);
     let after = answer.mem;
     let out = answer.out;
-    let same_mem = memory_matches(after, words);
-    let same_out = matches(&out, words, 445);
-    (answer.status == words[269]) & same_mem & same_out
+    // no call alters the limit
+    let same_limit = after.limit == limit;
+    let same_mem = memory_matches(after, words, 271);
+    let same_out = matches(&out, words, 446);
+    (answer.status == words[270]) & same_limit & same_mem & same_out
 }
 
-fn memory_matches(mem: combined::CombinedMem, words: &[u32; 1024]) -> bool {
+// The four memories that stand from `at` on.
+fn memory_matches(mem: combined::CombinedMem, words: &[u32; 1024], at: usize) -> bool
+    requires { ⌜ at ≤ 800 ⌝ }
+{
     let syn = mem.syn;
     let wz = mem.wz;
     let wp = mem.wp;
     let p_hist = mem.p_hist;
-    let same_syn = matches(&syn, words, 270);
-    let same_wz = matches(&wz, words, 280);
-    let same_wp = matches(&wp, words, 290);
-    let same_hist = matches(&p_hist, words, 300);
+    let same_syn = matches(&syn, words, at);
+    let same_wz = matches(&wz, words, at + 10);
+    let same_wp = matches(&wp, words, at + 20);
+    let same_hist = matches(&p_hist, words, at + 30);
     same_syn & same_wz & same_wp & same_hist
+}
+
+fn new_filter_memory(words: &[u32; 1024]) -> bool {
+    let answer = combined::CombinedMem::new(words[1]);
+    let mem = answer.mem;
+    let same_limit = mem.limit == words[3];
+    let same_mem = memory_matches(mem, words, 4);
+    (answer.status == words[2]) & same_limit & same_mem
 }
 
 fn combined_impulse_response(words: &[u32; 1024]) -> bool {
     let mut aq = [0.0f32; 11];
     let mut wz = [0.0f32; 10];
     let mut wp = [0.0f32; 10];
-    load(words, 1, &mut aq);
-    load(words, 12, &mut wz);
-    load(words, 22, &mut wp);
-    let beta = float::of_bits(words[33]);
-    let answer = impulse::combined_impulse_response(aq, wz, wp, words[32], beta);
+    load(words, 2, &mut aq);
+    load(words, 13, &mut wz);
+    load(words, 23, &mut wp);
+    let limit = words[1];
+    let beta = float::of_bits(words[34]);
+    let answer = impulse::combined_impulse_response(limit, aq, wz, wp, words[33], beta);
     let out = answer.out;
-    let same = matches(&out, words, 35);
-    (answer.status == words[34]) & same
+    let same = matches(&out, words, 36);
+    (answer.status == words[35]) & same
 }
 
 fn new_coder(words: &[u32; 1024]) -> bool {

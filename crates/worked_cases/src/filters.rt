@@ -26,6 +26,7 @@ fn over_history(lag: u32) -> Combined {
         wz: none,
         wp: none,
         p_hist,
+        limit: 142,
     };
     combined::run_combined(mem, input, aq, none, none, lag, 0.25)
 }
@@ -114,6 +115,7 @@ pub fn three_memories() -> bool {
             30.0,
         ],
         p_hist: [0.0f32; 145],
+        limit: 142,
     };
     let mut aq = [0.0f32; 11];
     aq[0] = 1.0;

@@ -39,7 +39,7 @@ pub fn bare_filter() -> bool {
     let mut aq = [0.0f32; 11];
     aq[0] = 1.0;
     let none = [0.0f32; 10];
-    let answer = impulse::combined_impulse_response(aq, none, none, 18, 0.25);
+    let answer = impulse::combined_impulse_response(142, aq, none, none, 18, 0.25);
     let out = answer.out;
     let response = lists::is_bare_response(&out);
     (answer.status == 0) & response
@@ -52,6 +52,7 @@ pub fn memory_kept() -> bool {
         wz: [2.0f32; 10],
         wp: [3.0f32; 10],
         p_hist: [0.5f32; 145],
+        limit: 142,
     };
     let none = [0.0f32; 10];
     let answer = combined::run_combined(mem, [0.25f32; 60], [0.0f32; 11], none, none, 146, 0.25);
