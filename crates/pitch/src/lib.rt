@@ -52,6 +52,7 @@ fn refused_pitch(status: u32) -> OpenLoop
 fn check_half(limit: u32, wbuf: &[f32], half: usize) -> u32
     ensures { λ r. ⌜ r ≡ first (pitchRefusals limit (now (wbuf .entry)) half) ⌝ }
 {
+    // before anything else is looked at
     let known = lag_limit::is_known(limit);
     if !known {
         return 2;
