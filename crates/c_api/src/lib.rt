@@ -166,11 +166,16 @@ pub extern "C" fn g7231_bare_weight_subframe(
 }
 
 #[no_mangle]
-pub extern "C" fn g7231_bare_open_loop_pitch(wbuf: &[f32], half: usize, lag: &mut u32) -> u32
-    ensures status { λ r. ⌜ r ≡ openLoopPitch 142 (now (wbuf .entry)) half .status ⌝ }
-    ensures lag { λ r. ⌜ now (lag .exit) ≡ lent r (now (lag .entry)) (openLoopPitch 142 (now (wbuf .entry)) half .lag) ⌝ }
+pub extern "C" fn g7231_bare_open_loop_pitch(
+    limit: u32,
+    wbuf: &[f32],
+    half: usize,
+    lag: &mut u32,
+) -> u32
+    ensures status { λ r. ⌜ r ≡ openLoopPitch limit (now (wbuf .entry)) half .status ⌝ }
+    ensures lag { λ r. ⌜ now (lag .exit) ≡ lent r (now (lag .entry)) (openLoopPitch limit (now (wbuf .entry)) half .lag) ⌝ }
 {
-    let answer = pitch::open_loop_pitch(wbuf, half);
+    let answer = pitch::open_loop_pitch(limit, wbuf, half);
     let status = answer.status;
     if status == 0 {
         *lag = answer.lag;
@@ -231,17 +236,18 @@ pub extern "C" fn g7231_bare_lsp_to_lpc(lsp: &[f32; 10], a: &mut [f32; 11]) -> u
 
 #[no_mangle]
 pub extern "C" fn g7231_bare_harmonic_noise_shaping(
+    limit: u32,
     wbuf: &[f32],
     place: usize,
     l_ol: u32,
     lag: &mut u32,
     beta: &mut f32,
 ) -> u32
-    ensures status { λ r. ⌜ r ≡ harmonicNoiseShaping 142 (now (wbuf .entry)) place «l_ol» .status ⌝ }
-    ensures lag { λ r. ⌜ now (lag .exit) ≡ lent r (now (lag .entry)) (harmonicNoiseShaping 142 (now (wbuf .entry)) place «l_ol» .params .lag) ⌝ }
-    ensures factor { λ r. ⌜ now (beta .exit) ≡ lent r (now (beta .entry)) (harmonicNoiseShaping 142 (now (wbuf .entry)) place «l_ol» .params .beta) ⌝ }
+    ensures status { λ r. ⌜ r ≡ harmonicNoiseShaping limit (now (wbuf .entry)) place «l_ol» .status ⌝ }
+    ensures lag { λ r. ⌜ now (lag .exit) ≡ lent r (now (lag .entry)) (harmonicNoiseShaping limit (now (wbuf .entry)) place «l_ol» .params .lag) ⌝ }
+    ensures factor { λ r. ⌜ now (beta .exit) ≡ lent r (now (beta .entry)) (harmonicNoiseShaping limit (now (wbuf .entry)) place «l_ol» .params .beta) ⌝ }
 {
-    let answer = pitch::harmonic_noise_shaping(wbuf, place, l_ol);
+    let answer = pitch::harmonic_noise_shaping(limit, wbuf, place, l_ol);
     let status = answer.status;
     if status == 0 {
         let params = answer.params;

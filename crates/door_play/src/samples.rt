@@ -42,10 +42,10 @@ pub fn analysis() -> bool {
 pub fn pitch() -> bool {
     let wbuf = pulses();
     let mut lag = 77;
-    let refused = c_api::g7231_bare_open_loop_pitch(&wbuf, 2, &mut lag);
+    let refused = c_api::g7231_bare_open_loop_pitch(142, &wbuf, 2, &mut lag);
     let kept = lag == 77;
-    let done = c_api::g7231_bare_open_loop_pitch(&wbuf, 0, &mut lag);
-    let want = pitch::open_loop_pitch(&wbuf, 0);
+    let done = c_api::g7231_bare_open_loop_pitch(142, &wbuf, 0, &mut lag);
+    let want = pitch::open_loop_pitch(142, &wbuf, 0);
     (refused == 2) & kept & (done == 0) & (lag == want.lag)
 }
 
@@ -53,10 +53,17 @@ pub fn shaping() -> bool {
     let wbuf = pulses();
     let mut lag = 77;
     let mut beta = buffers::MARK;
-    let refused = c_api::g7231_bare_harmonic_noise_shaping(&wbuf, 145, 17, &mut lag, &mut beta);
+    let refused = c_api::g7231_bare_harmonic_noise_shaping(
+        142,
+        &wbuf,
+        145,
+        17,
+        &mut lag,
+        &mut beta,
+    );
     let kept = (lag == 77) & (beta == buffers::MARK);
-    let done = c_api::g7231_bare_harmonic_noise_shaping(&wbuf, 145, 40, &mut lag, &mut beta);
-    let want = pitch::harmonic_noise_shaping(&wbuf, 145, 40);
+    let done = c_api::g7231_bare_harmonic_noise_shaping(142, &wbuf, 145, 40, &mut lag, &mut beta);
+    let want = pitch::harmonic_noise_shaping(142, &wbuf, 145, 40);
     let params = want.params;
     (refused == 4) & kept & (done == 0) & (lag == params.lag) & (beta == params.beta)
 }

@@ -5,7 +5,6 @@ use borrow.Author.Tests.{le-ltb}
 use mathlib.Core.Path.{_≡_, refl, ap, _∙_}
 use mathlib.Core.Bool.{Bool, true, false, not, cond}
 use mathlib.Core.List.{List, [], _∷_}
-use mathlib.Core.Logic.{inl, inr}
 use Prim.Native.Nat.{ℕ, zero, suc, _+_, _-_, _≤_}
 use lib.Ieee.Bits.{is-true}
 use lib.Ieee.{Float}
@@ -14,30 +13,15 @@ use lib.ListN.{length, take, drop}
 use lib.Seq.{take-all}
 use Rattle.float.specs.Refusal.{all, firstOf, answer}
 use Rattle.float.proofs.Parts.{passes, all-part}
-use Rattle.lags.specs.Lags.{cross, power}
 use Rattle.lags.specs.Search.{winner, preferred}
-use Rattle.lags.specs.declared.Best.{Best}
-use Rattle.lags.proofs.Winner.{Outcome, nothing-lag, winner-outcome, outcome-below}
 use Rattle.pitch.specs.Pitch.{start, refusedPitch, openLoopPitch}
 use Rattle.pitch.specs.Shaping.{settings, harmonicNoiseShaping}
 use Rattle.pitch.specs.inner.Readable.{Half}
+use Rattle.pitch.proofs.Limit.{in-range}
 use Rattle.frame_pitch.specs.declared.HalfTone.{HalfTone}
 use Rattle.frame_pitch.specs.declared.Tone.{Tone}
 use Rattle.frame_pitch.specs.Pitch.{pitches, shapings}
 use Rattle.frame_pitch.specs.inner.Tone.{halfTone, refusedTone, tone}
-
--- a search answers a lag of its range, or 18
-outcome-from : (num den : ℕ → Float) (b : ℕ) (s : Best) → Outcome num den 18 b s → 18 ≤ s .lag
-outcome-from num den b s (inl e) = omega (arith, nothing-lag s e)
-outcome-from num den b s (inr r) = r .from
-
-pub in-range : (w : List Float) (o : ℕ) → (18 ≤ winner preferred w o 120 18 143 .lag) × (winner preferred w o 120 18 143 .lag ≤ 142)
-in-range w o =
-    let s = winner preferred w o 120 18 143 in
-    let r = winner-outcome preferred w o 120 18 143 in (
-      outcome-from (cross w o 120) (power w o 120) 143 s r,
-      outcome-below (cross w o 120) (power w o 120) 18 143 142 s r (omega arith) (omega arith),
-    )
 
 -- ---- both stages as one: their first status, and what they answer where none refuses
 status-of : (n : ℕ) (t : Tone) → t .status ≡ 0 → answer n refusedTone t .status ≡ n
@@ -69,7 +53,7 @@ module _ (w : List Float) (long : length w ≡ 385) where
         is-true _ (all-part finite w a n 385 h (rw whole (passes _ fine)))
 
     pub half-shown : (half : ℕ) → half ≤ 1 → Half 142 w half
-    half-shown half h = record { one = h; long = omega (arith, long); fine = part-fine 0 (start 142 half + 120) (omega arith) }
+    half-shown half h = record { own-limit = refl; one = h; long = omega (arith, long); fine = part-fine 0 (start 142 half + 120) (omega arith) }
 
     lag-done : (half : ℕ) → half ≤ 1 → openLoopPitch 142 w half ≡ record { status = 0; lag = halfTone w half .lag }
     unfolding openLoopPitch halfTone
@@ -94,8 +78,8 @@ module _ (w : List Float) (long : length w ≡ 385) where
     pub tone-done : tone w ≡ joined (halfTone w 0) (halfTone w 1)
     unfolding tone pitches shapings halfTone
     tone-done =
-        let l0 = in-range w 145 in
-        let l1 = in-range w 265 in
+        let l0 = in-range 142 w 145 (omega arith) in
+        let l1 = in-range 142 w 265 (omega arith) in
         rw (
           lag-done 0 (omega arith),
           lag-done 1 (omega arith),

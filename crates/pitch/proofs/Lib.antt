@@ -3,3 +3,4 @@ mod Powers
 pub mod Edge
 pub mod Settings
 pub mod Half
+pub mod Limit

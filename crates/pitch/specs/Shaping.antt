@@ -1,6 +1,6 @@
--- `harmonic_noise_shaping`: the whole answer on every buffer, for open-loop lags 18 up to a limit. The limit is 142; three lags more are
+-- `harmonic_noise_shaping`: the whole answer on every buffer, for open-loop lags 18 up to the caller's limit; three lags more are
 -- searched on either side.
--- §2.11; document 01, B52 to B58, with B1 to B4 for the refusals. Assumes nothing.
+-- §2.11; document 01, B52 to B58, with B1 to B4 for the refusals; document 02, E6.5, E6.6 and E6.8 to E6.10. Assumes nothing.
 use mathlib.Core.Bool.{Bool, not, _||_, cond}
 use mathlib.Core.List.{List, [], _∷_}
 use Prim.Native.Nat.{ℕ, suc, _+_, _-_, max, min}
@@ -12,6 +12,7 @@ use Rattle.float.specs.Refusal.{first, answer}
 use Rattle.float.specs.Single.{_⊗_, single}
 use Rattle.float.specs.Double.{double}
 use Rattle.float.specs.Narrow.{narrow}
+use Rattle.lag_limit.specs.Limit.{known, reach}
 use Rattle.lags.specs.declared.Best.{Best}
 use Rattle.pitch.specs.declared.HnsParams.{HnsParams}
 use Rattle.pitch.specs.declared.Shaping.{Shaping}
@@ -39,21 +40,26 @@ settled best e g = cond (not (best .found) || le e (double 0 1) || not (passes (
 unfoldable pub shaped : List Float → ℕ → Best → HnsParams
 shaped f o best = settled best (power f o 60 0) (gain f o 60 (best .lag))
 
--- lags l−3..l+3 held to 18..limit + 3
+-- lags l−3..l+3 held to 18..reach
 unfoldable pub settings : ℕ → List Float → ℕ → ℕ → HnsParams
-settings limit f o l = shaped f o (winner greater f o 60 (max 18 (l - 3)) (suc (min (limit + 3) (l + 3))))
+settings limit f o l = shaped f o (winner greater f o 60 (max 18 (l - 3)) (suc (min (reach limit) (l + 3))))
 
 unfoldable pub refusedShaping : ℕ → Shaping
 refusedShaping n = record { status = n; params = record { lag = 0; beta = single 0 1 } }
 
--- the samples that count: limit + 3 before the place, and 60 from it on
+-- the samples that count: as many before the place as the lags reach back, and 60 from it on
 abbrev pub read : ℕ → List Float → ℕ → List Float
-read limit w place = take (limit + 63) (drop (place - (limit + 3)) w)
+read limit w place = take (reach limit + 60) (drop (place - reach limit) w)
 
--- 4 if l is outside 18..limit; 3 if the place is below limit + 3 or fewer than 60 samples stand from it on; 5 from place − (limit + 3) to place + 59
+-- 2 for a limit that is not known; 4 if l is outside 18..limit; 3 if the place is below reach or fewer than 60 samples stand from it on;
+-- 5 from place − reach to place + 59
 abbrev pub shapingRefusals : ℕ → List Float → ℕ → ℕ → List (ℕ × Bool)
 shapingRefusals limit w place l =
-    (4, ltb l 18 || ltb limit l) ∷ (3, ltb place (limit + 3) || ltb (length w) (place + 60)) ∷ (5, notFinite (read limit w place)) ∷ []
+    (2, not (known limit))
+    ∷ (4, ltb l 18 || ltb limit l)
+    ∷ (3, ltb place (reach limit) || ltb (length w) (place + 60))
+    ∷ (5, notFinite (read limit w place))
+    ∷ []
 
 unfoldable pub harmonicNoiseShaping : ℕ → List Float → ℕ → ℕ → Shaping
 harmonicNoiseShaping limit w place l =

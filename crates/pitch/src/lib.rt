@@ -1,12 +1,15 @@
 // Open-loop pitch (§2.9) and the settings of harmonic noise shaping (§2.11), over the weighted speech: history, then the frame.
+// The caller's limit stands first: its lags end there, and reach = limit + 3 samples of history stand before what is looked at (request E6).
 use lags::Best;
 ghost use mathlib.Core.Path.{_≡_};
-ghost use Prim.Native.Nat.{_+_, _≤_, max};
+ghost use mathlib.Core.Bool.{true};
+ghost use Prim.Native.Nat.{suc, _+_, _≤_, max};
 ghost use lib.Ieee.{nan};
 ghost use lib.ListN.{getD};
 ghost use Rattle.float.specs.Table.{table};
 ghost use Rattle.float.specs.Double.{_⊠_};
 ghost use Rattle.float.specs.Refusal.{first};
+ghost use Rattle.lag_limit.specs.Limit.{known, reach};
 ghost use Rattle.lags.specs.Search.{winner, preferred};
 ghost use Rattle.pitch.specs.Gate.{atMostOne, passes};
 ghost use Rattle.pitch.specs.Pitch.{refusedPitch, start, pitchRefusals, openLoopPitch};
@@ -45,14 +48,20 @@ fn refused_pitch(status: u32) -> OpenLoop
     OpenLoop { status, lag: 0 }
 }
 
-// The first refusal due: 2 if half > 1; 1 if shorter than what is read; 5 for any sample before the half's end.
-fn check_half(wbuf: &[f32], half: usize) -> u32
-    ensures { λ r. ⌜ r ≡ first (pitchRefusals 142 (now (wbuf .entry)) half) ⌝ }
+// The first refusal due: 2 for a limit that is not known; 2 if half > 1; 1 if shorter than what is read; 5 for any sample before the half's end.
+fn check_half(limit: u32, wbuf: &[f32], half: usize) -> u32
+    ensures { λ r. ⌜ r ≡ first (pitchRefusals limit (now (wbuf .entry)) half) ⌝ }
 {
+    // before anything else is looked at
+    let known = lag_limit::is_known(limit);
+    if !known {
+        return 2;
+    }
     if 1 < half {
         return 2;
     }
-    let end = 145 + 120 * half + 120;
+    let reach = limit as usize + 3;
+    let end = reach + 120 * half + 120;
     if wbuf.len() < end {
         return 1;
     }
@@ -64,30 +73,42 @@ fn check_half(wbuf: &[f32], half: usize) -> u32
     0
 }
 
-// The lag of a half that the check has passed.
-fn search_half(wbuf: &[f32], half: usize) -> u32
-    requires { ⌜ Half 142 (now wbuf) half ⌝ }
-    ensures { λ r. ⌜ r ≡ winner preferred (now (wbuf .entry)) (start 142 half) 120 18 143 .lag ⌝ }
+// The search up to the limit, compiled for each of the two.
+fn search_to(limit: u32, x: &[f64; 265], squares: &[f64; 265]) -> Best
+    requires { ⌜ known limit ≡ true ⌝ ∗ ⌜ now squares ≡ table 265 (λ i. getD (now x) i nan ⊠ getD (now x) i nan) ⌝ }
+    ensures { λ r. ⌜ r ≡ winner preferred (now (x .entry)) (reach limit) 120 18 (suc limit) ⌝ }
 {
-    let o = 145 + 120 * half;
+    if limit == 142 {
+        return lags::search_in(x, squares, 142);
+    }
+    lags::search_in(x, squares, 82)
+}
+
+// The lag of a half that the check has passed.
+fn search_half(limit: u32, wbuf: &[f32], half: usize) -> u32
+    requires { ⌜ Half limit (now wbuf) half ⌝ }
+    ensures { λ r. ⌜ r ≡ winner preferred (now (wbuf .entry)) (start limit half) 120 18 (suc limit) .lag ⌝ }
+{
+    let reach = limit as usize + 3;
+    let o = reach + 120 * half;
     let end = o + 120;
     let mut x = [0.0f64; 265];
-    lags::widen(&mut x, &wbuf[o - 145..end]);
+    lags::widen(&mut x, &wbuf[o - reach..end]);
     let mut squares = [0.0f64; 265];
     lags::square(&mut squares, &x);
-    let best = lags::search_in(&x, &squares, 142);
+    let best = search_to(limit, &x, &squares);
     best.lag
 }
 
-// Half 0 or 1 of the frame that follows 145 samples of history.
-pub fn open_loop_pitch(wbuf: &[f32], half: usize) -> OpenLoop
-    ensures { λ r. ⌜ r ≡ openLoopPitch 142 (now (wbuf .entry)) half ⌝ }
+// Half 0 or 1 of the frame that follows its history.
+pub fn open_loop_pitch(limit: u32, wbuf: &[f32], half: usize) -> OpenLoop
+    ensures { λ r. ⌜ r ≡ openLoopPitch limit (now (wbuf .entry)) half ⌝ }
 {
-    let status = check_half(wbuf, half);
+    let status = check_half(limit, wbuf, half);
     if status != 0 {
         return refused_pitch(status);
     }
-    let lag = search_half(wbuf, half);
+    let lag = search_half(limit, wbuf, half);
     OpenLoop { status: 0, lag }
 }
 
@@ -181,17 +202,23 @@ pub fn shaping_in(x: &[f64; 265], squares: &[f64; 265], o: usize, limit: u32, l:
     settle(best, e, sums.cross[i] / sums.power[i])
 }
 
-// The first refusal due: 4 for a lag outside 18..142; 3 for a place with too few samples before or after it; 5 for any sample that is read.
-fn check_shaping(wbuf: &[f32], place: usize, l_ol: u32) -> u32
-    ensures { λ r. ⌜ r ≡ first (shapingRefusals 142 (now (wbuf .entry)) place «l_ol») ⌝ }
+// The first refusal due: 2 for a limit that is not known; 4 for a lag outside 18..limit; 3 for a place with too few samples before or after it;
+// 5 for any sample that is read.
+fn check_shaping(limit: u32, wbuf: &[f32], place: usize, l_ol: u32) -> u32
+    ensures { λ r. ⌜ r ≡ first (shapingRefusals limit (now (wbuf .entry)) place «l_ol») ⌝ }
 {
+    let known = lag_limit::is_known(limit);
+    if !known {
+        return 2;
+    }
     if l_ol < 18 {
         return 4;
     }
-    if 142 < l_ol {
+    if limit < l_ol {
         return 4;
     }
-    if place < 145 {
+    let reach = limit as usize + 3;
+    if place < reach {
         return 3;
     }
     // place + 60 could wrap
@@ -201,7 +228,7 @@ fn check_shaping(wbuf: &[f32], place: usize, l_ol: u32) -> u32
     if wbuf.len() - place < 60 {
         return 3;
     }
-    let part = &wbuf[place - 145..place + 60];
+    let part = &wbuf[place - reach..place + 60];
     let fine = float::all_finite(part);
     if !fine {
         return 5;
@@ -210,25 +237,26 @@ fn check_shaping(wbuf: &[f32], place: usize, l_ol: u32) -> u32
 }
 
 // The settings at a place that the check has passed.
-fn shaping_at(wbuf: &[f32], place: usize, l_ol: u32) -> HnsParams
-    requires { ⌜ Subframe 142 (now wbuf) place «l_ol» ⌝ }
-    ensures { λ r. ⌜ r ≡ settings 142 (now (wbuf .entry)) place «l_ol» ⌝ }
+fn shaping_at(limit: u32, wbuf: &[f32], place: usize, l_ol: u32) -> HnsParams
+    requires { ⌜ Subframe limit (now wbuf) place «l_ol» ⌝ }
+    ensures { λ r. ⌜ r ≡ settings limit (now (wbuf .entry)) place «l_ol» ⌝ }
 {
+    let reach = limit as usize + 3;
     let mut x = [0.0f64; 265];
-    lags::widen(&mut x, &wbuf[place - 145..place + 60]);
+    lags::widen(&mut x, &wbuf[place - reach..place + 60]);
     let mut squares = [0.0f64; 265];
     lags::square(&mut squares, &x);
-    shaping_in(&x, &squares, 145, 142, l_ol)
+    shaping_in(&x, &squares, reach, limit, l_ol)
 }
 
-// The subframe of 60 samples at place, with 145 samples before it, around the open-loop lag.
-pub fn harmonic_noise_shaping(wbuf: &[f32], place: usize, l_ol: u32) -> Shaping
-    ensures { λ r. ⌜ r ≡ harmonicNoiseShaping 142 (now (wbuf .entry)) place «l_ol» ⌝ }
+// The subframe of 60 samples at place, with its history before it, around the open-loop lag.
+pub fn harmonic_noise_shaping(limit: u32, wbuf: &[f32], place: usize, l_ol: u32) -> Shaping
+    ensures { λ r. ⌜ r ≡ harmonicNoiseShaping limit (now (wbuf .entry)) place «l_ol» ⌝ }
 {
-    let status = check_shaping(wbuf, place, l_ol);
+    let status = check_shaping(limit, wbuf, place, l_ol);
     if status != 0 {
         return refused_shaping(status);
     }
-    let params = shaping_at(wbuf, place, l_ol);
+    let params = shaping_at(limit, wbuf, place, l_ol);
     Shaping { status: 0, params }
 }

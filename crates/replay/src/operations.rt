@@ -43,8 +43,8 @@ pub fn length_of(words: &[u32; 1024]) -> usize {
         9 => 23,
         10 => 33,
         11 => with_samples(words[1], 123),
-        12 => with_samples(words[1], 6),
-        13 => with_samples(words[1], 8),
+        12 => with_samples(words[2], 7),
+        13 => with_samples(words[2], 9),
         14 => 506,
         15 => 96,
         16 => 187,
@@ -244,28 +244,28 @@ fn weight_subframe(words: &[u32; 1024]) -> bool {
 }
 
 fn open_loop_pitch(words: &[u32; 1024]) -> bool {
-    let n = count(words[1]);
+    let n = count(words[2]);
     if n > MOST {
         return false;
     }
-    let at = n + 2;
+    let at = n + 3;
     let mut samples = [0.0f32; 510];
-    load(words, 2, &mut samples);
+    load(words, 3, &mut samples);
     let half = wide(words[at], words[at + 1]) as usize;
-    let answer = pitch::open_loop_pitch(&samples[0..n], half);
+    let answer = pitch::open_loop_pitch(words[1], &samples[0..n], half);
     (answer.status == words[at + 2]) & (answer.lag == words[at + 3])
 }
 
 fn harmonic_noise_shaping(words: &[u32; 1024]) -> bool {
-    let n = count(words[1]);
+    let n = count(words[2]);
     if n > 500 {
         return false;
     }
-    let at = n + 2;
+    let at = n + 3;
     let mut samples = [0.0f32; 510];
-    load(words, 2, &mut samples);
+    load(words, 3, &mut samples);
     let place = wide(words[at], words[at + 1]) as usize;
-    let answer = pitch::harmonic_noise_shaping(&samples[0..n], place, words[at + 2]);
+    let answer = pitch::harmonic_noise_shaping(words[1], &samples[0..n], place, words[at + 2]);
     let params = answer.params;
     let same = float::same_bits(params.beta, words[at + 5]);
     (answer.status == words[at + 3]) & (params.lag == words[at + 4]) & same

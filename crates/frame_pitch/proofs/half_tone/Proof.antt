@@ -13,20 +13,20 @@ use Rattle.pitch.specs.declared.HnsParams.{HnsParams}
 use Rattle.pitch.specs.Pitch.{start}
 use Rattle.pitch.specs.Shaping.{settings}
 use Rattle.pitch.specs.inner.Readable.{Half}
+use Rattle.pitch.proofs.Limit.{in-range}
 use Rattle.pitch.proofs.Half.{part, part-finite, half-copied, half-long, found}
 use Rattle.pitch.proofs.Settings.{settings-copy}
 use Rattle.frame_pitch.specs.declared.HalfTone.{HalfTone}
 use Rattle.frame_pitch.specs.inner.Tone.{halfTone}
-use Rattle.frame_pitch.proofs.Stages.{in-range}
 use Rattle.frame_pitch.proofs.half_tone.Statement.{statement}
 use Rattle.frame_pitch.proofs.half_tone.Tie as tie
 
 -- the lag that was found lies in the range of shaping
 low : (x : List Float) (b : Best) → b ≡ winner preferred x 145 120 18 143 → 18 ≤ b .lag
-low x b e = subst (λ (s : Best). 18 ≤ s .lag) (sym e) (in-range x 145 .0)
+low x b e = subst (λ (s : Best). 18 ≤ s .lag) (sym e) (in-range 142 x 145 (omega arith) .0)
 
 high : (x : List Float) (b : Best) → b ≡ winner preferred x 145 120 18 143 → b .lag ≤ 142
-high x b e = subst (λ (s : Best). s .lag ≤ 142) (sym e) (in-range x 145 .1)
+high x b e = subst (λ (s : Best). s .lag ≤ 142) (sym e) (in-range 142 x 145 (omega arith) .1)
 
 module _ (w : List Float) (half : ℕ) (shown : Half 142 w half) (x rest : List Float) (e : x ≡ part 142 w half shown ++ rest) where
   -- settings at place 145 + k of the copy

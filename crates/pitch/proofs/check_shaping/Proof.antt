@@ -10,15 +10,16 @@ use lib.Ieee.Scale.{finite}
 use lib.ListN.{take, drop}
 use Rattle.float.specs.Refusal.{all}
 use Rattle.float.proofs.Refusal.{checks}
+use Rattle.lag_limit.specs.Limit.{reach}
 use Rattle.pitch.specs.Shaping.{read}
 use Rattle.pitch.proofs.check_shaping.Statement.{statement}
 use Rattle.pitch.proofs.check_shaping.Tie as tie
 
 -- the part that the code cuts is the definition's
-same-part : (t : Bool) (w : List Float) (place : ℕ) → 145 ≤ place
-    → t ≡ all finite (take (place + 60 - (place - 145)) (drop (place - 145) w)) → t ≡ all finite (read 142 w place)
-same-part t w place h e =
-    let n : place + 60 - (place - 145) ≡ 205 = omega arith in
+same-part : (limit : ℕ) (t : Bool) (w : List Float) (place : ℕ) → reach limit ≤ place
+    → t ≡ all finite (take (place + 60 - (place - reach limit)) (drop (place - reach limit) w)) → t ≡ all finite (read limit w place)
+same-part limit t w place h e =
+    let n : place + 60 - (place - reach limit) ≡ reach limit + 60 = omega arith in
     rw n at e
 
 -- fewer than 60 samples stand from the place on
@@ -35,18 +36,24 @@ pub check-shaping-spec : {M : Type 1} → statement M
 check-shaping-spec =
     tie.close
     (tie.spec
+    -- is-known-requires
+    (λ c κs. search needs)
     -- returns
     (λ c. search checks)
     -- returns-2
     (λ c. search checks)
     -- returns-3
     (λ c. search checks)
-    -- returns-4
-    (λ c. search (checks, past))
-    -- sub-if5
+    -- add-reach
     (λ c. search needs)
+    -- returns-4
+    (λ c. search checks)
     -- returns-5
-    (λ c. search (checks, few))
+    (λ c. search (checks, past))
+    -- sub-if6
+    (λ c. search needs)
+    -- returns-6
+    (λ c. search (checks, few) depth 8)
     -- add-part
     (λ c. search needs)
     -- mul-part
@@ -59,7 +66,7 @@ check-shaping-spec =
     (λ c. search needs)
     -- all-finite-requires
     (λ c κs. search needs)
-    -- returns-6
-    (λ c. search (checks, same-part, enough))
     -- returns-7
-    (λ c. search (checks, same-part, enough)))
+    (λ c. search (checks, same-part, enough) depth 8)
+    -- returns-8
+    (λ c. search (checks, same-part, enough) depth 8))

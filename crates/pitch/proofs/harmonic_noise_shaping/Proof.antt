@@ -9,6 +9,7 @@ use lib.Ieee.{Float}
 use lib.ListN.{length}
 use Rattle.float.specs.Refusal.{first}
 use Rattle.float.proofs.Refusal.{answer-refused, answer-done, clear, or-clear}
+use Rattle.lag_limit.specs.Limit.{reach}
 use Rattle.pitch.specs.declared.HnsParams.{HnsParams}
 use Rattle.pitch.specs.declared.Shaping.{Shaping}
 use Rattle.pitch.specs.Shaping.{shapingRefusals, harmonicNoiseShaping}
@@ -17,17 +18,18 @@ use Rattle.pitch.proofs.harmonic_noise_shaping.Statement.{statement}
 use Rattle.pitch.proofs.harmonic_noise_shaping.Tie as tie
 
 -- what the check has shown
-shown : (w : List Float) (place l s : ℕ) → s ≡ first (shapingRefusals 142 w place l) → s ≡ 0 → Subframe 142 w place l
-shown w place l s e h =
-    let z = clear (shapingRefusals 142 w place l) tt e h in
-    let lag = or-clear (ltb l 18) (ltb 142 l) (z .0) in
-    let inside = or-clear (ltb place 145) (ltb (length w) (place + 60)) (z .1 .0) in
+shown : (limit : ℕ) (w : List Float) (place l s : ℕ) → s ≡ first (shapingRefusals limit w place l) → s ≡ 0 → Subframe limit w place l
+shown limit w place l s e h =
+    let z = clear (shapingRefusals limit w place l) tt e h in
+    let lag = or-clear (ltb l 18) (ltb limit l) (z .1 .0) in
+    let inside = or-clear (ltb place (reach limit)) (ltb (length w) (place + 60)) (z .1 .1 .0) in
     record {
+      own-limit = not-false _ (z .0);
       low = ltb-false _ _ (lag .0);
       high = ltb-false _ _ (lag .1);
       early = ltb-false _ _ (inside .0);
       long = ltb-false _ _ (inside .1);
-      fine = not-false _ (z .1 .1 .0);
+      fine = not-false _ (z .1 .1 .1 .0);
     }
 
 pub harmonic-noise-shaping-spec : {M : Type 1} → statement M

@@ -14,10 +14,15 @@ use Rattle.pitch.proofs.open_loop_pitch.Statement.{statement}
 use Rattle.pitch.proofs.open_loop_pitch.Tie as tie
 
 -- what the check has shown
-shown : (w : List Float) (half s : ℕ) → s ≡ first (pitchRefusals 142 w half) → s ≡ 0 → Half 142 w half
-shown w half s e h =
-    let z = clear (pitchRefusals 142 w half) tt e h in
-    record { one = ltb-false _ _ (z .0); long = ltb-false _ _ (z .1 .0); fine = not-false _ (z .1 .1 .0) }
+shown : (limit : ℕ) (w : List Float) (half s : ℕ) → s ≡ first (pitchRefusals limit w half) → s ≡ 0 → Half limit w half
+shown limit w half s e h =
+    let z = clear (pitchRefusals limit w half) tt e h in
+    record {
+      own-limit = not-false _ (z .0);
+      one = ltb-false _ _ (z .1 .0);
+      long = ltb-false _ _ (z .1 .1 .0);
+      fine = not-false _ (z .1 .1 .1 .0);
+    }
 
 pub open-loop-pitch-spec : {M : Type 1} → statement M
 unfolding openLoopPitch

@@ -1,6 +1,6 @@
 -- `pitch::search_half` meets its contract: the copy of the half and its history has the buffer's winner. Assumes nothing.
 use borrow.Author.Needs.{needs}
-use Rattle.pitch.proofs.Half.{part-finite, found}
+use Rattle.pitch.proofs.Half.{part-finite, part-short, found}
 use Rattle.pitch.proofs.search_half.Statement.{statement}
 use Rattle.pitch.proofs.search_half.Tie as tie
 
@@ -8,6 +8,8 @@ pub search-half-spec : {M : Type 1} → statement M
 search-half-spec =
     tie.close
     (tie.spec
+    -- add-reach
+    (λ c. search needs)
     -- mul-o
     (λ c. search needs)
     -- add-o
@@ -25,10 +27,10 @@ search-half-spec =
     -- part-widen-end
     (λ c. search needs)
     -- widen-requires
-    (λ c κs. (search needs, (search needs, search (part-finite 142))))
+    (λ c κs. (search needs, (search part-short, search part-finite)))
     -- square-requires
     (λ c κs. search needs)
-    -- search-in-requires
+    -- search-to-requires
     (λ c κs. search needs)
     -- returns
-    (λ c. search (found 142)))
+    (λ c. search found))
