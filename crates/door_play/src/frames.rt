@@ -193,7 +193,15 @@ pub fn response() -> bool {
     let wz = buffers::cosines();
     let wp = buffers::other_cosines();
     let mut out = [buffers::MARK; 60];
-    let refused = c_api::g7231_bare_combined_impulse_response(82, &aq, &wz, &wp, 86, 0.25, &mut out);
+    let refused = c_api::g7231_bare_combined_impulse_response(
+        82,
+        &aq,
+        &wz,
+        &wp,
+        86,
+        0.25,
+        &mut out,
+    );
     let kept = buffers::sixty(out, [buffers::MARK; 60]);
     let done = c_api::g7231_bare_combined_impulse_response(82, &aq, &wz, &wp, 40, 0.25, &mut out);
     let want = impulse::combined_impulse_response(82, aq, wz, wp, 40, 0.25);

@@ -147,7 +147,9 @@ fn rests(mem: CombinedMem, limit: u32) -> bool {
     let wz = mem.wz;
     let wp = mem.wp;
     let p_hist = mem.p_hist;
-    let taps = float::same_bits(syn[0], 0) & float::same_bits(wz[0], 0) & float::same_bits(wp[9], 0);
+    let taps = float::same_bits(syn[0], 0)
+        & float::same_bits(wz[0], 0)
+        & float::same_bits(wp[9], 0);
     taps & silent(p_hist, 0, 145) & (mem.limit == limit)
 }
 
