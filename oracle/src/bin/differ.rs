@@ -283,8 +283,8 @@ fn line(operation: &Operation, seed: u64, tally: &Tally, began: Instant) -> (Str
     );
     if operation.takes().iter().any(|field| field.role == "lag limit") {
         let [logger, gateway] = tally.limits;
-        line +=
-            &format!("; 142: {logger}, 82: {gateway} (held to the Rust with 85 and 82 cut in: not asked, seen equal)");
+        let seen = if tally.fault.is_none() { "not asked, seen equal" } else { "not asked" };
+        line += &format!("; 142: {logger}, 82: {gateway} (held to the Rust with 85 and 82 cut in: {seen})");
     }
     for distance in &tally.distances.largest {
         line += &format!(
