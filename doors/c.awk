@@ -19,7 +19,7 @@ function c_element(element) { return element in c_type ? c_type[element] : eleme
 # shorter one to the compiler.
 function c_part(holder, name, way, element, many, row) {
     if (row > 0) return "(" (way == "Read" ? "const " : "") c_element(element) " *)" holder "->" name
-    return (many == "One" ? "&" : "") holder "->" name
+    return (many == "One" && way != "Value" ? "&" : "") holder "->" name
 }
 
 # A parameter as a prototype has it.

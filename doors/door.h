@@ -42,6 +42,7 @@ enum role {
     CHOICE,      /* a subframe, or more */
     HALF,        /* a half of a frame */
     PLACE,       /* where a subframe starts in the weighted speech */
+    LAG_LIMIT,   /* the limit of a caller's pitch lags */
     PITCH_LAG,   /* a lag of the pitch search */
     LAG,         /* a lag of the harmonic filter */
     FACTOR,      /* a factor of the harmonic filter */
@@ -68,6 +69,9 @@ union argument {
 };
 
 typedef uint32_t call(const union argument *);
+
+/* What a safe call answers that altered a number of a struct which the bare form takes by value: no status. */
+#define ALTERED UINT32_MAX
 
 struct door {
     const char *name; /* without g7231_ */

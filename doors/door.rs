@@ -67,6 +67,10 @@ pub union Argument {
     pub double: f64,
 }
 
+/// What a safe call answers that altered a number of a struct which the bare form takes by value: no status.
+#[allow(dead_code)]
+pub const ALTERED: u32 = u32::MAX;
+
 #[allow(dead_code)]
 pub struct Door {
     /// Without `g7231_`.

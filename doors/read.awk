@@ -10,7 +10,7 @@
 #   holder     DOOR NAME WAY STRUCT                   of the safe form, before the parameters that the bare form has for it
 #   parameter  DOOR NAME WAY ELEMENT MANY COUNT ROLE HOLDER ROW
 #              of the bare form, in the words of doors/door.rs. ELEMENT may be a struct's name. HOLDER and ROW are of a
-#              holder's field; where HOLDER is empty the safe form has the same parameter
+#              holder's field, which may be a Value; where HOLDER is empty the safe form has the same parameter
 #   refusal    DOOR NUMBER
 #
 # Variables: header, the file's name for messages; roles, the role words, a tab between them.
@@ -342,8 +342,17 @@ function read_parts(door, type, it, constant,  n, part, count) {
         part = part_name[type, n]
         count = part_count[type, n]
         tell(door, part, it "." part, part_type[type, n], count ? "Fixed" : "One", count ? count : 1,
-             lent_way(it "." part, constant), it, part_row[type, n])
+             part_way(it "." part, constant, count == 0 && is_number(part_type[type, n])), it, part_row[type, n])
     }
+}
+
+# A struct of this header is an element by its own name.
+function is_number(type) { return element[type] != type }
+
+# How the bare form takes a field: a number that is read and not moved on by value, since no call alters it.
+function part_way(known_as, constant, number) {
+    if (number && known_as in role && !(known_as in moved)) return "Value"
+    return lent_way(known_as, constant)
 }
 
 # How what is lent is used; `Takes:` has its name as `known_as`.

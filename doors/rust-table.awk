@@ -17,8 +17,16 @@ function given(at, way, element, many, count) {
     return "a[" at "]." holds[element] (element ~ /16|U8/ ? " as " rs_element(element) : "")
 }
 
-# Lays a field of a struct in parts out, and copies it back whatever the status: a refused call that alters one shows.
-function lay(door, at, way, field,  copy) {
+# Lays a field of a struct in parts out, and copies it back whatever the status: a refused call that alters one shows. One
+# that goes by value has nowhere to be copied to: a call that alters it answers no status.
+function lay(door, at, way, element, field,  copy, value) {
+    if (way == "Value") {
+        value = given(at, way, element)
+        before[door] = before[door] sprintf("        %s = %s;\n", field, value)
+        after[door] = after[door] sprintf("        if %s.to_ne_bytes() != (%s).to_ne_bytes() {\n", field, value)
+        after[door] = after[door] "            return ALTERED;\n        }\n"
+        return
+    }
     copy = "        std::ptr::copy_nonoverlapping("
     before[door] = before[door] copy sprintf("a[%d].place.cast(), &mut %s, 1);\n", at, field)
     if (way != "Read") after[door] = after[door] copy sprintf("&%s, a[%d].place.cast(), 1);\n", field, at)
@@ -48,7 +56,7 @@ $1 == "parameter" {
     rows[$2] = rows[$2] sprintf(row, $3, $4, element, many, $8)
     add(bares, $2, given(at, $4, $5, $6, $7))
     if ($9 == "") add(safes, $2, given(at, $4, $5, $6, $7))
-    else lay($2, at, $4, $9 "." $3)
+    else lay($2, at, $4, $5, $9 "." $3)
 }
 
 END {

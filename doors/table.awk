@@ -17,8 +17,16 @@ function given(at, way, element) {
     return (element ~ /16|U8/ ? "(" c_element(element) ")" : "") "a[" at "]." holds[element]
 }
 
-# Lays a field of a struct in parts out, and copies it back whatever the status: a refused call that alters one shows.
-function lay(door, at, way, field) {
+# Lays a field of a struct in parts out, and copies it back whatever the status: a refused call that alters one shows. One
+# that goes by value has nowhere to be copied to: a call that alters it answers no status.
+function lay(door, at, way, element, field,  value) {
+    if (way == "Value") {
+        value = given(at, way, element)
+        before[door] = before[door] sprintf("    %s = %s;\n", field, value)
+        after[door] = after[door] sprintf("    if (memcmp(&%s, &(%s){%s}, sizeof %s) != 0) return ALTERED;\n", field, \
+            c_element(element), value, field)
+        return
+    }
     before[door] = before[door] sprintf("    memcpy(&%s, a[%d].place, sizeof %s);\n", field, at, field)
     if (way != "Read") after[door] = after[door] sprintf("    memcpy(a[%d].place, &%s, sizeof %s);\n", at, field, field)
 }
@@ -47,7 +55,7 @@ $1 == "parameter" {
         ($5 in holds ? toupper($5) : "STRUCT"), c_element($5), toupper($6), $7, role)
     add(bares, $2, given(at, $4, $5))
     if ($9 == "") add(safes, $2, given(at, $4, $5))
-    else lay($2, at, $4, $9 "." $3)
+    else lay($2, at, $4, $5, $9 "." $3)
 }
 
 END {

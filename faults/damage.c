@@ -4,8 +4,8 @@
 
 #define PICK(random, list) ((list)[random_below(random, sizeof(list) / sizeof *(list))])
 
-static const size_t lengths[] = {0,   1,   59,  60,  61,  145, 179, 180, 181,  204,  205,  206,  264,  265,
-                                 266, 325, 359, 360, 361, 384, 385, 386, 1024, 2047, 2048, 2559, 2560, 2561};
+static const size_t lengths[] = {0,   1,   59,  60,  61,  85,  145, 179, 180, 181, 204,  205,  206,  264,  265, 266,
+                                 324, 325, 326, 359, 360, 361, 384, 385, 386, 1024, 2047, 2048, 2559, 2560, 2561};
 
 /* Of a file of code rows: none of its last numbers, a part of them, and what is just enough and just too much. */
 static const size_t file_lengths[] = {
@@ -19,12 +19,14 @@ static const int row_limits[] = {ROW_LIMIT, ROW_LIMIT + 1, INT16_MAX, -ROW_LIMIT
 static const size_t huge[] = {SIZE_MAX,     SIZE_MAX / 2, SIZE_MAX / 4 + 1, (size_t)1 << 62,
                               SIZE_MAX - 3, 1u << 31,     (size_t)1 << 32,  ((size_t)1 << 32) + 180};
 
-static const size_t sizes[] = {0,   1,   2,   3,   4,   5,   144, 145,          146,          203,           204,
-                               205, 206, 264, 265, 266, 324, 325, 326,          385,          1988,          1989,
-                               SIZE_MAX, SIZE_MAX - 59, SIZE_MAX - 60, SIZE_MAX - 144, SIZE_MAX / 2, SIZE_MAX / 120};
+static const size_t sizes[] = {0,   1,   2,   3,   4,   5,   84,  85,  86,  144, 145, 146,  203,
+                               204, 205, 206, 264, 265, 266, 324, 325, 326, 385, 1988, 1989,
+                               SIZE_MAX, SIZE_MAX - 59, SIZE_MAX - 60, SIZE_MAX - 84, SIZE_MAX - 144, SIZE_MAX / 2,
+                               SIZE_MAX / 120};
 
 static const uint32_t numbers[] = {
     0,   1,     2,      3,      7,       8,     9,          17,         18,         19,
+    81,  82,    83,     84,     85,      86,    338,        398,        0x80000052, 0x10052,
     60,  141,   142,    143,    144,     145,   146,        255,        256,        359,
     360, 361,   0x7fff, 0x8000, 0xffff,  66051, 0x7fffffff, 0x80000000, 0xffffffff, 0xfffffff,
     0xffffff, 0x1000000};

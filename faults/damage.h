@@ -5,8 +5,8 @@
 #include "inputs.h"
 
 /* The inputs of a turn: valid ones, valid ones with bits flipped, with a limit put in, all limits, or random bits;
- * lengths, places, lags and choices over and under their limits; files with a number out of bounds, with another end, too
- * long and too short. */
+ * lengths, places, lags, choices and limits of lags over and under their bounds; files with a number out of bounds, with
+ * another end, too long and too short. */
 void make_damaged(const struct door *door, struct random *random, struct given *given);
 
 #endif

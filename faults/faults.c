@@ -99,6 +99,7 @@ static const uint32_t fragile[] = {0x7f800001, 0xff800001, 0x7fa01234, 0xffbffff
 
 struct place {
     size_t offset, bytes; /* of the buffer in its slot */
+    size_t used;          /* its bytes that a call may look at, the first ones */
     size_t from, to;      /* what is watched */
     unsigned char before[SLOT_BYTES];
 };
@@ -112,6 +113,7 @@ static void lay_out_fenced(const struct given *given, struct random *random, uni
         if (!is_buffer(parameter)) continue;
         struct place *place = &places[i];
         place->bytes = given->count[i] * parameter->width;
+        place->used = in_use(at.door, given, i) * parameter->width;
         /* an empty buffer stands at the page, so that reading even its first element is seen */
         const int end = at.layout == AT_END || place->bytes == 0;
         place->offset = end ? SLOT_BYTES - place->bytes : 0;
@@ -123,7 +125,8 @@ static void lay_out_fenced(const struct given *given, struct random *random, uni
             const uint32_t word = fragile[random_below(random, sizeof fragile / sizeof *fragile)];
             memcpy(own + n, &word, 4);
         }
-        if (parameter->way != MADE) memcpy(own + place->offset, given->room[i].byte, place->bytes);
+        /* what is not in use is another in each of the four calls, so that one that looks at it answers otherwise */
+        if (parameter->way != MADE) memcpy(own + place->offset, given->room[i].byte, place->used);
         memcpy(place->before + place->from, own + place->from, place->to - place->from);
         argument[i].place = arena_seen((int)i, at.layout == AT_START && is_read(parameter)) + place->offset;
     }
@@ -146,10 +149,12 @@ static void look(uint32_t status)
         if (!is_buffer(parameter)) continue;
         const struct place *place = &places[i];
         const unsigned char *own = arena_own((int)i);
-        const size_t end = place->offset + place->bytes;
+        const size_t end = place->offset + place->bytes, used = place->offset + place->used;
         what[0] = 0;
         if (moved(place, own, place->from, place->offset) || moved(place, own, end, place->to))
             snprintf(what, sizeof what, "wrote outside %s", parameter->name);
+        else if (moved(place, own, used, end))
+            snprintf(what, sizeof what, "altered %s where it is not in use", parameter->name);
         else if (!moved(place, own, place->offset, end)) continue;
         else if (is_read(parameter))
             snprintf(what, sizeof what, "altered %s, which is only read", parameter->name);
@@ -172,8 +177,8 @@ static void keep(uint32_t status, struct answer *answer)
     answer->bytes = 0;
     for (unsigned i = 0; i < at.door->count; i++) {
         if (status != 0 || !is_written(&at.door->parameter[i])) continue;
-        memcpy(answer->byte + answer->bytes, arena_own((int)i) + places[i].offset, places[i].bytes);
-        answer->bytes += places[i].bytes;
+        memcpy(answer->byte + answer->bytes, arena_own((int)i) + places[i].offset, places[i].used);
+        answer->bytes += places[i].used;
     }
 }
 
@@ -303,8 +308,9 @@ static const char help[] =
     "an inaccessible page and with its start at one (there what is only read cannot be written). N turns (default 2000),\n"
     "or turns for M minutes; --turn makes one turn again. The same seed makes the same turns.\n"
     "A call that touches other memory, does not come back, alters what it only reads, alters anything when it refuses, or\n"
-    "answers the four calls differently is reported with its seed and turn. A run of 1,000 turns or more fails too where a\n"
-    "door was never done or never gave one of its refusals.\n\n"
+    "answers the four calls differently is reported with its seed and turn. So is one that alters the places of a filter's\n"
+    "history that are not in use, or looks at them: they are others in each call. A run of 1,000 turns or more fails too where\n"
+    "a door was never done or never gave one of its refusals.\n\n"
     "Exit status: 0 no fault; 1 a fault; 2 bad usage; 3 the harness itself.\n";
 
 static double now(void)

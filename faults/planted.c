@@ -147,6 +147,43 @@ static uint32_t places_no_row(const union argument *argument)
     return status;
 }
 
+/* The history of the combined filter, and whether its last places are not in use. */
+static volatile uint32_t *history(const union argument *argument) { return lent("run_combined", argument, "p_hist"); }
+
+static int is_shorter(const union argument *argument)
+{
+    return argument[parameter_of(&doors[door_named("run_combined")], LAG_LIMIT)].number == LIMIT_GATEWAY;
+}
+
+static uint32_t writes_a_place_not_in_use(const union argument *argument)
+{
+    const uint32_t status = asked("run_combined", argument);
+    if (status == G7231_DONE && is_shorter(argument)) history(argument)[G7231_GATEWAY_PAST] = 0;
+    return status;
+}
+
+static uint32_t refuses_for_a_place_not_in_use(const union argument *argument)
+{
+    const int bad = (history(argument)[G7231_PAST - 1] & 0x7f800000) == 0x7f800000;
+    if (is_shorter(argument) && bad) return G7231_NOT_FINITE;
+    return asked("run_combined", argument);
+}
+
+/* what the table's safe call answers where the limit of a memory is another afterwards */
+static uint32_t alters_the_limit(const union argument *argument)
+{
+    const uint32_t status = asked("run_combined", argument);
+    return status == G7231_DONE ? ALTERED : status;
+}
+
+static uint32_t makes_what_it_refuses(const union argument *argument)
+{
+    const uint32_t status = asked("new_filter_memory", argument);
+    volatile uint32_t *const limit = lent("new_filter_memory", argument, "lag_limit");
+    if (status == G7231_CHOICE) *limit = 0;
+    return status;
+}
+
 const struct planted planted[PLANTED] = {
     {"reads one past the end", "lsp_to_lpc", reads_past, 1, "buffer lsp, end at the page"},
     {"reads one before the start", "lsp_to_lpc", reads_before, 1, "buffer lsp, start at the page"},
@@ -165,4 +202,10 @@ const struct planted planted[PLANTED] = {
     {"looks at the file of a wrong buffer", "load_rows", looks_at_the_file, 1, "buffer file, end at the page"},
     {"reads a 2,561st number", "decode_lsp_freq_in", looks_at_a_2561st, 1, "buffer rows, end at the page"},
     {"places a row that it refuses", "row", places_no_row, 1, "refused with 2 and altered start"},
+    {"writes a place that is not in use", "run_combined", writes_a_place_not_in_use, 1,
+     "altered p_hist where it is not in use"},
+    {"refuses for a place that is not in use", "run_combined", refuses_for_a_place_not_in_use, 1, "another answer"},
+    {"alters the limit of a memory", "run_combined", alters_the_limit, 1, "answered 4294967295, which is no status"},
+    {"makes a memory that it refuses", "new_filter_memory", makes_what_it_refuses, 1,
+     "refused with 2 and altered lag_limit"},
 };

@@ -112,9 +112,11 @@ static size_t row_file_length(struct random *random)
     return FILE_LEAST + (way == 0 ? 0 : way == 1 ? most : random_below(random, way < 5 ? 256 : most + 1));
 }
 
-/* What a role asks for, as numbers. There is no default: the compiler names a role that has no maker. */
-static void make_numbers(enum role role, struct random *random, double *x, size_t count)
+/* What a role asks for, as numbers, in a call with such a limit of lags. There is no default: the compiler names a role
+ * that has no maker. */
+static void make_numbers(enum role role, struct random *random, size_t limit, double *x, size_t count)
 {
+    const size_t past = limit + LIMIT_MORE;
     double ten[11], power = 1;
     switch (role) {
     case SPEECH: speech(random, x, count); return;
@@ -149,9 +151,10 @@ static void make_numbers(enum role role, struct random *random, double *x, size_
     case SPACING: x[0] = random_between(random, 0, 400); return;
     case CHOICE: x[0] = (double)random_below(random, 5); return;
     case HALF: x[0] = (double)random_below(random, 2); return;
-    case PLACE: x[0] = (double)(145 + random_below(random, 181)); return;
-    case PITCH_LAG: x[0] = (double)(18 + random_below(random, 125)); return;
-    case LAG: x[0] = (double)(18 + random_below(random, 128)); return;
+    case LAG_LIMIT: x[0] = (double)limit; return;
+    case PLACE: x[0] = (double)(past + random_below(random, 385 - 60 - past + 1)); return;
+    case PITCH_LAG: x[0] = (double)(18 + random_below(random, limit - 17)); return;
+    case LAG: x[0] = (double)(18 + random_below(random, past - 17)); return;
     case FACTOR: x[0] = random_between(random, 0, 0.3125); return;
     case ANY:
     case NONE: return;
@@ -215,6 +218,9 @@ static void make_any(const struct parameter *parameter, struct random *random, s
 void make_valid(const struct door *door, struct random *random, struct given *given)
 {
     static double x[ROOM_BYTES];
+    /* drawn first: lags and places are valid for it */
+    const int gateway = parameter_of(door, LAG_LIMIT) >= 0 && random_below(random, 2);
+    const size_t limit = gateway ? LIMIT_GATEWAY : LIMIT_LOGGER;
     for (unsigned i = 0; i < door->count; i++) {
         const struct parameter *parameter = &door->parameter[i];
         memset(&given->value[i], 0, sizeof given->value[i]);
@@ -230,7 +236,7 @@ void make_valid(const struct door *door, struct random *random, struct given *gi
             make_any(parameter, random, given, i);
         } else if (parameter->way != MADE) {
             const size_t count = is_buffer(parameter) ? given->count[i] : 1;
-            make_numbers(parameter->role, random, x, count);
+            make_numbers(parameter->role, random, limit, x, count);
             for (size_t n = 0; n < count && is_buffer(parameter); n++) put_number(parameter, &given->room[i], n, x[n]);
             if (!is_buffer(parameter)) put_value(parameter, &given->value[i], x[0]);
         }
@@ -244,6 +250,14 @@ void lay_out(const struct door *door, struct given *given, union room made[MOST]
         argument[i] = given->value[i];
         if (is_buffer(parameter)) argument[i].place = parameter->way == MADE ? made[i].byte : given->room[i].byte;
     }
+}
+
+size_t in_use(const struct door *door, const struct given *given, unsigned at)
+{
+    const int limit = parameter_of(door, LAG_LIMIT);
+    if (limit < 0 || strcmp(door->parameter[at].name, "p_hist") != 0 || door->parameter[at].way != KEPT)
+        return given->count[at];
+    return given->value[limit].number == LIMIT_GATEWAY ? LIMIT_GATEWAY + LIMIT_MORE : given->count[at];
 }
 
 int parameter_of(const struct door *door, enum role role)

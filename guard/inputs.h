@@ -27,6 +27,9 @@ enum {
     FILE_MOST = 32768
 };
 
+/* The limits of a caller's pitch lags, and how many more samples than that a caller looks back on. */
+enum { LIMIT_LOGGER = 142, LIMIT_GATEWAY = 82, LIMIT_MORE = 3 };
+
 /* Room for a buffer, aligned for any element; a file that is too long has room too. */
 enum { ROOM_BYTES = FILE_MOST + 4096 };
 union room {
@@ -51,6 +54,10 @@ void lay_out(const struct door *door, struct given *given, union room made[MOST]
 /* Puts a number into an element, or a value, of any kind but a struct; a whole number is held within the kind's range. */
 void put_number(const struct parameter *parameter, union room *room, size_t at, double x);
 void put_value(const struct parameter *parameter, union argument *value, double x);
+
+/* How many elements of a buffer a call may look at: all of them, but of the history of a filter memory as many as its limit
+ * of lags has in use. */
+size_t in_use(const struct door *door, const struct given *given, unsigned at);
 
 /* A parameter by its role, or a door by its name without g7231_; -1 where there is none. */
 int parameter_of(const struct door *door, enum role role);

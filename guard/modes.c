@@ -116,11 +116,12 @@ static void make_telling(int number, uint64_t turn, struct given *given)
         }
         if (variant == 6) given->room[i].word[random_below(&random, given->count[i])] = 0x7fa00001;
     }
-    const int place = parameter_of(door, PLACE), pitch = parameter_of(door, PITCH_LAG);
-    if (variant == 4 && place >= 0 && pitch >= 0 && door->parameter[0].role == SPEECH) {
+    const int place = parameter_of(door, PLACE), pitch = parameter_of(door, PITCH_LAG), speech = parameter_of(door, SPEECH);
+    if (variant == 4 && place >= 0 && pitch >= 0 && speech >= 0) {
+        uint32_t *const word = given->room[speech].word;
         put_value(&door->parameter[place], &given->value[place], 240);
         put_value(&door->parameter[pitch], &given->value[pitch], 60);
-        for (size_t n = 240; n < 300; n++) given->room[0].word[n] = scaled(given->room[0].word[n - 60], -132);
+        for (size_t n = 240; n < 300; n++) word[n] = scaled(word[n - 60], -132);
     }
     if (variant == 7) make_tie(door, &random, given);
 }
@@ -194,20 +195,24 @@ static unsigned shown(const struct mode *mode, int number, uint64_t turns)
     return count;
 }
 
-static int takes_nothing(const struct door *door)
+/* Nothing, or whole numbers by value. */
+static int takes_no_list(const struct door *door)
 {
-    for (unsigned i = 0; i < door->count; i++)
-        if (door->parameter[i].way != MADE) return 0;
+    for (unsigned i = 0; i < door->count; i++) {
+        const struct parameter *parameter = &door->parameter[i];
+        if (is_read(parameter) || parameter->way == KEPT) return 0;
+        if (parameter->way == VALUE && (parameter->element == F32 || parameter->element == F64)) return 0;
+    }
     return 1;
 }
 
-/* A door through whose bare form no mode shows has inputs that tell nothing, unless it has no input. */
+/* A door through whose bare form no mode shows has inputs that tell nothing, unless it has next to none. */
 static void look_at_silent(const struct door *door)
 {
     if (door->bare == door->safe) return;
     printf("%s: no mode shows through its bare form", door->name);
-    if (takes_nothing(door)) {
-        printf(": it takes nothing, and no mode alters that one answer\n");
+    if (takes_no_list(door)) {
+        printf(": it takes no float and no list, and no mode alters those few answers\n");
         return;
     }
     printf("\nFAILED: so this test shows nothing of it\n");
@@ -331,7 +336,7 @@ static const char help[] =
     "  modes --calls DOOR SIDE N   N calls of a door, bare or safe, for a tool that counts\n"
     "  modes --list                the doors\n\n"
     "Exit status: 0 every mode shows through a bare form and through no safe one, and a mode through every bare form that\n"
-    "takes something; 1 not; 2 bad usage.\n";
+    "takes a float or a list; 1 not; 2 bad usage.\n";
 
 int main(int words, char **word)
 {

@@ -39,20 +39,22 @@
 extern "C" {
 #endif
 
-#define G7231_VERSION "0.6.0"
+#define G7231_VERSION "0.7.0"
 
 enum {
-    G7231_BANDS = 3,     /* bands of a line set, each with a row of the code tables */
-    G7231_ORDER = 10,    /* lines of a set, taps of a filter, values of its memory */
-    G7231_FILTER = 11,   /* coefficients of a filter, the leading 1 among them */
-    G7231_LAG_MIN = 18,  /* the shortest pitch lag */
-    G7231_SUBFRAME = 60, /* samples of a subframe */
-    G7231_LAG_MAX = 142, /* the longest pitch lag */
-    G7231_PAST = 145,    /* samples that are looked back on */
-    G7231_WINDOW = 180,  /* samples of a window of linear prediction */
-    G7231_FRAME = 240,   /* samples of a frame */
-    G7231_SPAN = 360,    /* samples that a frame is coded from: 60 before it, its 240, 60 after it */
-    G7231_ROWS = 2560    /* numbers of the code rows: 256 rows of three, 256 of three, 256 of four */
+    G7231_BANDS = 3,            /* bands of a line set, each with a row of the code tables */
+    G7231_ORDER = 10,           /* lines of a set, taps of a filter, values of its memory */
+    G7231_FILTER = 11,          /* coefficients of a filter, the leading 1 among them */
+    G7231_LAG_MIN = 18,         /* the shortest pitch lag */
+    G7231_SUBFRAME = 60,        /* samples of a subframe */
+    G7231_GATEWAY_LAG_MAX = 82, /* the longest pitch lag of a conference gateway */
+    G7231_GATEWAY_PAST = 85,    /* samples that it looks back on */
+    G7231_LAG_MAX = 142,        /* the longest pitch lag of a logger, and of a frame */
+    G7231_PAST = 145,           /* samples that these look back on */
+    G7231_WINDOW = 180,         /* samples of a window of linear prediction */
+    G7231_FRAME = 240,          /* samples of a frame */
+    G7231_SPAN = 360,           /* samples that a frame is coded from: 60 before it, its 240, 60 after it */
+    G7231_ROWS = 2560           /* numbers of the code rows: 256 rows of three, 256 of three, 256 of four */
 };
 
 enum {
@@ -91,6 +93,17 @@ typedef struct {
     float factor[4];          /* and its factor */
     float a[4][G7231_FILTER]; /* the filter of each subframe */
 } g7231_frame;
+
+/* What the combined filter keeps between subframes, in the caller's memory. The bare
+ * forms take its fields one by one. Its limit is set when the memory is made, and no
+ * call alters it. */
+typedef struct {
+    uint32_t lag_limit;        /* the longest pitch lag of its caller: 142 or 82 */
+    float syn[G7231_ORDER];    /* the synthesis filter's last outputs, most recent first */
+    float wz_mem[G7231_ORDER]; /* the weighting filter's last inputs, most recent first */
+    float wp_mem[G7231_ORDER]; /* and its last outputs */
+    float p_hist[G7231_PAST];  /* the last harmonic inputs, oldest first, in the first lag_limit + 3 places */
+} g7231_filter_memory;
 
 /* A coder before its first frame: the resting set, its cosines, and silence.
  * Refuses: nothing */
@@ -249,59 +262,81 @@ uint32_t g7231_weighting_taps(const float a[G7231_FILTER], float wz[G7231_ORDER]
 uint32_t g7231_weight_subframe(const float *x, size_t len, const float wz[G7231_ORDER], const float wp[G7231_ORDER],
                                float x_mem[G7231_ORDER], float f_mem[G7231_ORDER], float out[G7231_SUBFRAME]);
 
-/* The pitch lag, 18 to 142, of one half of a frame that starts at place 145 of
- * the weighted speech.
+/* Limits of lags. A caller's pitch lags end at a limit: 142 for a logger, 82 for a
+ * conference gateway, and no other. With 82 less past is asked for: 85 samples where a
+ * logger needs 145. A frame has 142. */
+
+/* The pitch lag, 18 to the limit, of one half of a frame that starts at place
+ * limit + 3 of the weighted speech.
  * Takes:
- *   wbuf: speech, 385 samples for either half, 265 for half 0 alone
+ *   limit: lag limit, 142 or 82
+ *   wbuf: speech, 385 samples for either half and either limit; limit + 123 for half
+ *     0, limit + 243 for half 1: 265 and 385 with 142, 205 and 325 with 82
  *   half: half, 0 or 1
  * Refuses:
+ *   2 G7231_CHOICE: limit is neither 142 nor 82
  *   2 G7231_CHOICE: half is above 1
- *   1 G7231_LENGTH: len is below 265 for half 0, below 385 for half 1
- *   5 G7231_NOT_FINITE: any of the first 265 samples for half 0, of the first 385
- *     for half 1; later ones are not looked at */
-uint32_t g7231_open_loop_pitch(const float *wbuf, size_t len, size_t half, uint32_t *lag);
+ *   1 G7231_LENGTH: len is below what that half needs
+ *   5 G7231_NOT_FINITE: any of the samples that that half needs; later ones are not
+ *     looked at */
+uint32_t g7231_open_loop_pitch(uint32_t limit, const float *wbuf, size_t len, size_t half, uint32_t *lag);
 
-/* The lag and the factor of harmonic noise shaping for the subframe at place,
- * around a pitch lag. Shaping off is lag 18 with factor 0.
+/* The lag, 18 to limit + 3, and the factor of harmonic noise shaping for the subframe
+ * at place, around a pitch lag. Shaping off is lag 18 with factor 0.
  * Takes:
+ *   limit: lag limit, 142 or 82
  *   wbuf: speech, 385 samples of weighted speech hold a frame and its past
  *   place: place, where the subframe starts
- *   l_ol: pitch lag, as g7231_open_loop_pitch answers it
+ *   l_ol: pitch lag, as g7231_open_loop_pitch answers it with the same limit
  * Refuses:
- *   4 G7231_LAG: l_ol is outside 18..142
- *   3 G7231_PLACE: 145 samples before place, or 60 from it on, are not all there
- *   5 G7231_NOT_FINITE: any sample from place - 145 to place + 59; others are not
- *     looked at */
-uint32_t g7231_harmonic_noise_shaping(const float *wbuf, size_t len, size_t place, uint32_t l_ol, uint32_t *lag,
-                                      float *beta);
+ *   2 G7231_CHOICE: limit is neither 142 nor 82
+ *   4 G7231_LAG: l_ol is outside 18..limit
+ *   3 G7231_PLACE: limit + 3 samples before place, or 60 from it on, are not all there
+ *   5 G7231_NOT_FINITE: any sample from place - (limit + 3) to place + 59; others are
+ *     not looked at */
+uint32_t g7231_harmonic_noise_shaping(uint32_t limit, const float *wbuf, size_t len, size_t place, uint32_t l_ol,
+                                      uint32_t *lag, float *beta);
 
-/* One subframe through synthesis, weighting and harmonic filter.
+/* A filter memory at rest: the limit, and zeros in all other fields, the places that
+ * are not in use included.
  * Takes:
- *   syn, wz_mem, wp_mem: speech, moved on; ten values each, most recent first
- *   p_hist: speech, moved on; the last 145 harmonic inputs, oldest first
+ *   limit: lag limit, 142 or 82
+ * Refuses:
+ *   2 G7231_CHOICE: limit is neither 142 nor 82 */
+uint32_t g7231_new_filter_memory(uint32_t limit, g7231_filter_memory *memory);
+
+/* One subframe through synthesis, weighting and harmonic filter. Of memory->p_hist the
+ * first lag_limit + 3 places are in use, 145 or 85; the others are neither read nor
+ * altered.
+ * Takes:
+ *   memory.lag_limit: lag limit, 142 or 82
+ *   memory.syn, memory.wz_mem, memory.wp_mem, memory.p_hist: speech, moved on
  *   input: speech
  *   aq: filter
  *   wz, wp: taps, zeros and poles
- *   lag: lag, 18 to 145
+ *   lag: lag, 18 to lag_limit + 3
  *   beta: factor
  * Refuses:
- *   4 G7231_LAG: lag is outside 18..145
- *   5 G7231_NOT_FINITE: any float given, the four memories and beta included */
-uint32_t g7231_run_combined(float syn[G7231_ORDER], float wz_mem[G7231_ORDER], float wp_mem[G7231_ORDER],
-                            float p_hist[G7231_PAST], const float input[G7231_SUBFRAME], const float aq[G7231_FILTER],
-                            const float wz[G7231_ORDER], const float wp[G7231_ORDER], uint32_t lag, float beta,
-                            float out[G7231_SUBFRAME]);
+ *   2 G7231_CHOICE: memory->lag_limit is neither 142 nor 82
+ *   4 G7231_LAG: lag is outside 18..lag_limit + 3
+ *   5 G7231_NOT_FINITE: any float given, beta and the memory included, but for the
+ *     places of memory->p_hist that are not in use */
+uint32_t g7231_run_combined(g7231_filter_memory *memory, const float input[G7231_SUBFRAME],
+                            const float aq[G7231_FILTER], const float wz[G7231_ORDER], const float wp[G7231_ORDER],
+                            uint32_t lag, float beta, float out[G7231_SUBFRAME]);
 
 /* The same filter's response to the unit impulse, from rest.
  * Takes:
+ *   limit: lag limit, 142 or 82
  *   aq: filter
  *   wz, wp: taps, zeros and poles
- *   lag: lag, 18 to 145
+ *   lag: lag, 18 to limit + 3
  *   beta: factor
  * Refuses:
- *   4 G7231_LAG: lag is outside 18..145
+ *   2 G7231_CHOICE: limit is neither 142 nor 82
+ *   4 G7231_LAG: lag is outside 18..limit + 3
  *   5 G7231_NOT_FINITE: any float given, beta included */
-uint32_t g7231_combined_impulse_response(const float aq[G7231_FILTER], const float wz[G7231_ORDER],
+uint32_t g7231_combined_impulse_response(uint32_t limit, const float aq[G7231_FILTER], const float wz[G7231_ORDER],
                                          const float wp[G7231_ORDER], uint32_t lag, float beta,
                                          float out[G7231_SUBFRAME]);
 

@@ -2,8 +2,10 @@
 //!
 //! - The Rust: tables.rs, spec_tables.rs and spec_lsp.rs are taken whole, the items of `ITEMS` are cut out of
 //!   encoder.rs by matching braces. `published` has their text as it stands. `ruled` has the same text with each
-//!   call of cos, acos and log10 replaced by document 01's rule (`CALLS`). `spec_lsp_in` is spec_lsp.rs again as it stands,
-//!   but for where its rows come from (`BUILT_IN`). All are written to cargo's output folder alone.
+//!   call of cos, acos and log10 replaced by document 01's rule (`CALLS`). Each has the items of encoder.rs twice: with the
+//!   Rust's own limit of lags, and as `encoder_82` with the gateway's cut in as a number (`SHORTER`). `spec_lsp_in` is
+//!   spec_lsp.rs again as it stands, but for where its rows come from (`BUILT_IN`). All are written to cargo's output folder
+//!   alone.
 //! - The doors: `doors/make` prints their bindings and their table from include/g7231.h.
 //! - The library: the archive that ./install wrote.
 //!
@@ -39,7 +41,8 @@ const ITEMS: [&str; 19] = [
     "fn enforce_lsp_stability",
 ];
 
-/// A call of the Rust's and the rule that takes its place; it must stand exactly once in its item.
+/// A call of the Rust's, or another piece of it, and what takes its place; it must stand exactly once in its item.
+#[derive(Clone, Copy)]
 struct Call {
     item: &'static str,
     old: &'static str,
@@ -74,6 +77,14 @@ const CALLS: [Call; 6] = [
         new: "crate::rule::gate(1.0 - ratio)",
     },
 ];
+
+/// Where the cut items have the limit of lags, and the numbers that request E6 has a gateway read there; no other place may
+/// name it.
+const SHORTER: [Call; 2] = [
+    Call { item: "const WSPEECH_HIST", old: "PITCH_MAX + 3", new: "85" },
+    Call { item: "fn open_loop_pitch", old: "PITCH_MIN..=PITCH_MAX", new: "PITCH_MIN..=82" },
+];
+const LIMIT: &str = "PITCH_MAX";
 
 /// Where spec_lsp.rs has its rows from, and what brings in lent ones; it must stand exactly once.
 const BUILT_IN: &str = "use crate::spec_tables::{LSP_DC_PREDICTED_FREQ_Q15, LspBand, lsp_codebook_entry};";
@@ -180,32 +191,41 @@ fn rust(top: &Path, here: &Path, out: &Path) {
     for ruled in [false, true] {
         let way = if ruled { "ruled" } else { "published" };
         let lsp = if ruled { replaced_in_file(&spec_lsp) } else { spec_lsp.clone() };
-        let mut cut = "use crate::tables::*;\n".to_string();
-        for item in ITEMS {
-            let text = item_of(&encoder, item);
-            cut += &if ruled { replaced(item, text) } else { text.to_string() };
-            cut += "\n\n";
-        }
+        let rules = if ruled { &CALLS[..] } else { &[] };
+        let [mut cut, mut shorter] = [rules.to_vec(), [rules, &SHORTER].concat()].map(|calls| cut(&encoder, &calls));
         if ruled {
             for call in [".cos()", ".acos()", ".log10()"] {
-                if lsp.contains(call) || cut.contains(call) {
+                if [&lsp, &cut, &shorter].into_iter().any(|text| text.contains(call)) {
                     fail(&format!("a call of {call} in the Rust has no rule in CALLS"));
                 }
             }
         }
+        if shorter.contains(LIMIT) {
+            fail(&format!("{LIMIT} stands in the Rust where SHORTER has no number for it"));
+        }
         // The cut functions are private: a module below them can still see them.
-        cut += &format!("#[path = {reach:?}]\npub mod reach;\n");
-        for (name, text) in [("spec_lsp", &lsp), ("encoder", &cut)] {
-            write(&out.join(format!("{way}_{name}.rs")), text);
+        for text in [&mut cut, &mut shorter] {
+            *text += &format!("#[path = {reach:?}]\npub mod reach;\n");
         }
         whole += &format!("pub mod {way} {{\n");
-        for name in ["spec_lsp", "encoder"] {
+        for (name, text) in [("spec_lsp", &lsp), ("encoder", &cut), ("encoder_82", &shorter)] {
             let path = out.join(format!("{way}_{name}.rs"));
+            write(&path, text);
             whole += &format!("    #[allow(dead_code, clippy::all)]\n    #[path = {path:?}]\n    pub mod {name};\n");
         }
         whole += "}\n";
     }
     write(&out.join("rust.rs"), &whole);
+}
+
+/// The items of encoder.rs, with new words in place of some.
+fn cut(encoder: &str, calls: &[Call]) -> String {
+    let mut text = "use crate::tables::*;\n".to_string();
+    for item in ITEMS {
+        text += &replaced(item, item_of(encoder, item), calls);
+        text += "\n\n";
+    }
+    text
 }
 
 /// The text of one item, from its attributes to its closing brace or semicolon.
@@ -266,10 +286,10 @@ fn end_of(text: &str, head: usize, item: &str) -> usize {
     fail(&format!("the Rust's `{item}` has no end"))
 }
 
-/// The text of an item with document 01's rules in place of its calls.
-fn replaced(item: &str, text: &str) -> String {
+/// The text of an item with new words in place of those of its calls.
+fn replaced(item: &str, text: &str, calls: &[Call]) -> String {
     let mut text = text.to_string();
-    for call in CALLS.iter().filter(|call| call.item == item) {
+    for call in calls.iter().filter(|call| call.item == item) {
         text = put(&text, call.old, call.new, item);
     }
     text
@@ -288,7 +308,7 @@ fn replaced_in_file(text: &str) -> String {
     let mut text = text.to_string();
     for item in ["fn lsp_freq_to_cosines", "fn lsp_cosines_to_freq"] {
         let old = item_of(&text, item).to_string();
-        text = text.replace(&old, &replaced(item, &old));
+        text = text.replace(&old, &replaced(item, &old, &CALLS));
     }
     text
 }

@@ -88,14 +88,17 @@ impl Stages for Published {
     }
 
     fn open_loop_pitch(&self, wbuf: &[f32], half: usize) -> Result<u32, u32> {
-        Ok((self.0.open_loop_pitch)(wbuf, half) as u32)
+        Ok((self.0.logger.open_loop_pitch)(wbuf, half) as u32)
     }
 
     fn harmonic_noise_shaping(&self, wbuf: &[f32], place: usize, l_ol: u32) -> Result<(u32, f32), u32> {
-        let (lag, factor) = (self.0.harmonic_noise_shaping)(wbuf, place, l_ol as i32);
+        let (lag, factor) = (self.0.logger.harmonic_noise_shaping)(wbuf, place, l_ol as i32);
         Ok((lag as u32, factor))
     }
 }
+
+/// The limit of lags that a frame has.
+const LIMIT: u32 = 142;
 
 const EMPTY: g7231_frame = g7231_frame { index: 0, pitch: [0; 2], lag: [0; 4], factor: [0.0; 4], a: [[0.0; 11]; 4] };
 
@@ -175,11 +178,11 @@ unsafe fn by_doors(coder: &mut Coder, samples: &[i16], spacing_hz: f32, frame: &
         go!(g7231_bare_weight_subframe, from, 60, &wz, &wp, &mut coder.x_mem, &mut coder.f_mem, to);
     }
     for half in 0..2 {
-        go!(g7231_bare_open_loop_pitch, speech.as_ptr(), 385, half, &mut frame.pitch[half]);
+        go!(g7231_bare_open_loop_pitch, LIMIT, speech.as_ptr(), 385, half, &mut frame.pitch[half]);
     }
     for s in 0..4 {
-        let (lag, factor) = (&mut frame.lag[s], &mut frame.factor[s]);
-        go!(g7231_bare_harmonic_noise_shaping, speech.as_ptr(), 385, 145 + 60 * s, frame.pitch[s / 2], lag, factor);
+        let (pitch, lag, factor) = (frame.pitch[s / 2], &mut frame.lag[s], &mut frame.factor[s]);
+        go!(g7231_bare_harmonic_noise_shaping, LIMIT, speech.as_ptr(), 385, 145 + 60 * s, pitch, lag, factor);
     }
     (coder.set, coder.lines) = (set, lines);
     coder.weighted.copy_from_slice(&speech[240..]);

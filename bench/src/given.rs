@@ -6,6 +6,7 @@ use oracle::code_rows::built_in;
 use oracle::doors::made::{Argument, Door, Element, Many, Parameter, Way, G7231_DONE};
 use oracle::makers;
 use oracle::random::Random;
+use oracle::reference::past;
 use oracle::row_file::image;
 use oracle::speech::loud_piece;
 use std::hint::black_box;
@@ -16,17 +17,19 @@ pub const INPUTS: usize = 32;
 /// What is drawn for a door: for each parameter that takes something, one list of values for each input.
 pub struct Given {
     pub door: &'static Door,
+    /// Of lags, where the door takes it.
+    pub limit: u32,
     values: Vec<Vec<Vec<f64>>>,
 }
 
 impl Given {
-    pub fn new(door: &'static Door, random: &mut Random) -> Given {
+    pub fn new(door: &'static Door, limit: u32, random: &mut Random) -> Given {
         let mut values = vec![Vec::new(); door.parameters.len()];
         for _ in 0..INPUTS {
             let mut taps = None;
             for (parameter, list) in door.parameters.iter().zip(&mut values) {
                 if taken(parameter) {
-                    let own = drawn(parameter, random, &mut taps);
+                    let own = drawn(parameter, limit, random, &mut taps);
                     if own.len() != count(parameter) {
                         fail(&format!("{}: {} has no {} values", door.name, parameter.name, own.len()));
                     }
@@ -34,7 +37,7 @@ impl Given {
                 }
             }
         }
-        Given { door, values }
+        Given { door, limit, values }
     }
 
     /// The values of a parameter, for each input, in a form of their own.
@@ -74,6 +77,14 @@ impl Given {
     }
 }
 
+/// The role of a limit of lags.
+const LIMIT: &str = "lag limit";
+
+/// Whether a door takes a limit of lags.
+pub fn takes_a_limit(door: &Door) -> bool {
+    door.parameters.iter().any(|parameter| parameter.role == LIMIT)
+}
+
 /// Whether something is drawn for a parameter.
 fn taken(parameter: &Parameter) -> bool {
     parameter.way != Way::Made && parameter.many != Many::Length
@@ -89,8 +100,9 @@ fn count(parameter: &Parameter) -> usize {
 
 type Ten = [f32; 10];
 
-/// A likely value of a parameter. Taps come in pairs, zeros and then poles of one filter.
-fn drawn(parameter: &Parameter, random: &mut Random, taps: &mut Option<(Ten, Ten)>) -> Vec<f64> {
+/// A likely value of a parameter in a call with such a limit of lags. Taps come in pairs, zeros and then poles of one filter.
+fn drawn(parameter: &Parameter, limit: u32, random: &mut Random, taps: &mut Option<(Ten, Ten)>) -> Vec<f64> {
+    let past = past(limit);
     let wide = |xs: &[f32]| xs.iter().map(|x| f64::from(*x)).collect();
     match parameter.role {
         "speech" => wide(&loud_piece(random, count(parameter))),
@@ -110,9 +122,10 @@ fn drawn(parameter: &Parameter, random: &mut Random, taps: &mut Option<(Ten, Ten
         "spacing" => vec![31.25],
         "choice" => vec![random.below(4) as f64],
         "half" => vec![random.below(2) as f64],
-        "place" => vec![(145 + 60 * random.below(4)) as f64],
-        "pitch lag" => vec![(18 + random.below(125)) as f64],
-        "lag" => vec![(18 + random.below(128)) as f64],
+        LIMIT => vec![f64::from(limit)],
+        "place" => vec![(past + 60 * random.below(4)) as f64],
+        "pitch lag" => vec![(18 + random.below(past - 20)) as f64],
+        "lag" => vec![(18 + random.below(past - 17)) as f64],
         "factor" => vec![0.25],
         "any" => (0..count(parameter)).map(|_| random.below(128) as f64).collect(),
         role => fail(&format!("bench draws nothing for the role {role}, which {} has", parameter.name)),

@@ -29,7 +29,8 @@ by its door and by the doors of its stages in a chain, both beside the published
 
 It prints a table in markdown, with a dash where the Rust has no such function; the frame comes first, and after the table
 what it takes beside the chain of its doors. Inputs are drawn by the words with which the header says what a parameter holds.
-A door over lent code rows is lent the Rust's, and stands beside the function that has them built in.
+A door over lent code rows is lent the Rust's, and stands beside the function that has them built in. A door that takes a limit
+of lags has a row with 142 and, as NAME_82, one with 82, beside the Rust's text with 85 and 82 cut in.
 bench/run builds it, counts instructions and runs it.
 Exit status: 0 done; 1 the Rust is not at hand, a door refuses what is drawn for it, or a file could not be read or
 written; 2 bad usage.
@@ -62,7 +63,7 @@ fn main() {
     }
     let counted = counts.map(|path| measure::counts(&path)).unwrap_or_default();
     let times = measure::times(&mut pairs, batches);
-    let names: Vec<&str> = pairs.iter().map(|pair| pair.name).collect();
+    let names: Vec<&str> = pairs.iter().map(|pair| pair.name.as_str()).collect();
     let rows = rows::rows(&names, &times, &counted);
     print!("{}", rows::table(&rows));
     if let Some(text) = rows::beside(&rows) {

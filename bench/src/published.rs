@@ -1,5 +1,6 @@
 //! The published Rust's functions on the inputs that a door is called on; for a frame, which it has no function for, its
-//! functions in a chain; and the same for the doors over lent rows, which are lent the Rust's own.
+//! functions in a chain; the same for the doors over lent rows, which are lent the Rust's own; and with the limit of lags 82 the
+//! text that has 85 and 82 cut in.
 
 use crate::chains;
 use crate::given::Given;
@@ -48,6 +49,14 @@ pub fn run(rust: &Rust, given: &Given) -> Option<Run> {
         weighting_taps(a: arrays) => weighting_taps(a);
         weight_subframe(x: lists, wz: arrays, wp: arrays, x_mem: arrays, f_mem: arrays) =>
             weight_subframe(x, wz, wp, &mut { *x_mem }, &mut { *f_mem });
+    }
+    let lags = rust.lags(given.limit).ok()?;
+    // the Rust's has another name; it is copied to where a memory of either limit has room
+    if called == "new_filter_memory" {
+        let new_memory = lags.new_memory;
+        return timed(move |_| new_memory());
+    }
+    functions! { lags, given, called;
         open_loop_pitch(wbuf: lists, half: sizes) => open_loop_pitch(wbuf, *half);
         harmonic_noise_shaping(wbuf: lists, place: sizes, l_ol: numbers) =>
             harmonic_noise_shaping(wbuf, *place, *l_ol as i32);

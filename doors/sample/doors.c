@@ -76,8 +76,26 @@ uint32_t g7231_bare_shift(const int16_t *by, size_t by_len, float *level, int16_
     return G7231_DONE;
 }
 
-uint32_t g7231_bare_look(const float *level, const int16_t rows[6], int32_t *last)
+uint32_t g7231_bare_look(float level, const int16_t rows[6], int32_t *last)
 {
-    *last = *level < 1 ? rows[5] : 0;
+    *last = level < 1 ? rows[5] : 0;
+    return G7231_DONE;
+}
+
+uint32_t g7231_bare_new_counter(uint8_t by, uint8_t *step, int16_t *least, double *scale, int32_t sums[2])
+{
+    *step = by;
+    *least = -1;
+    *scale = 0.5;
+    sums[0] = sums[1] = 0;
+    return G7231_DONE;
+}
+
+uint32_t g7231_bare_count(uint8_t step, int16_t least, double scale, int32_t sums[2], int32_t *count)
+{
+    if (!(scale >= 0)) return G7231_SUM;
+    sums[0] ^= step;
+    sums[1] = sums[1] / 2 + (scale > 1);
+    *count = sums[0] < least ? least : sums[0];
     return G7231_DONE;
 }

@@ -45,6 +45,14 @@ typedef struct {
     double each[2];
 } g7231_told;
 
+/* A memory with numbers that stay as they were made. The bare forms take its fields one by one. */
+typedef struct {
+    uint8_t step;
+    int16_t least;
+    double scale;
+    int32_t sums[2];
+} g7231_counter;
+
 /* Three numbers out of six bytes. Has no bare form.
  * Takes:
  *   bytes: any, 6 of them
@@ -109,12 +117,27 @@ uint32_t g7231_unroll(const uint8_t *file, size_t len, int16_t *numbers, size_t 
  *   3 G7231_SUM: len is not 2 */
 uint32_t g7231_shift(const int16_t *by, size_t by_len, g7231_kept *kept, const uint8_t *bytes, size_t len, size_t *far);
 
-/* A struct in parts that is only read.
+/* A struct in parts that is only read: its number goes by value.
  * Takes:
  *   kept.level: factor
  *   kept.rows: any
  * Refuses: nothing */
 uint32_t g7231_look(const g7231_kept *kept, int32_t *last);
+
+/* A struct in parts, made.
+ * Takes:
+ *   by: any
+ * Refuses: nothing */
+uint32_t g7231_new_counter(uint8_t by, g7231_counter *counter);
+
+/* A struct in parts of which some is moved on: its other numbers go by value.
+ * Takes:
+ *   counter.step, counter.least: any
+ *   counter.scale: factor
+ *   counter.sums: any, moved on
+ * Refuses:
+ *   3 G7231_SUM: the scale is not 0 or above */
+uint32_t g7231_count(g7231_counter *counter, int32_t *count);
 
 #ifdef __cplusplus
 }

@@ -8,7 +8,7 @@
 #include "g7231.h"
 #include "shared.h"
 
-enum { LINES = G7231_ORDER, SUBFRAME = G7231_SUBFRAME, PAST = G7231_PAST };
+enum { LINES = G7231_ORDER, SUBFRAME = G7231_SUBFRAME, PAST = G7231_PAST, LIMIT = G7231_LAG_MAX };
 
 /* Of the doors one by one, and of all answers. */
 static uint64_t stepped = NOTHING, answers = NOTHING;
@@ -100,36 +100,33 @@ static void step(g7231_coder *coder, const float x[SPAN], struct taps taps[4], g
     ANSWERED(speech);
 
     for (size_t half = 0; half < 2; half++)
-        DONE(g7231_open_loop_pitch, (speech, PAST + FRAME, half, &frame->pitch[half]));
+        DONE(g7231_open_loop_pitch, (LIMIT, speech, PAST + FRAME, half, &frame->pitch[half]));
     for (size_t s = 0; s < 4; s++)
-        DONE(g7231_harmonic_noise_shaping,
-             (speech, PAST + FRAME, PAST + s * SUBFRAME, frame->pitch[s / 2], &frame->lag[s], &frame->factor[s]));
+        DONE(g7231_harmonic_noise_shaping, (LIMIT, speech, PAST + FRAME, PAST + s * SUBFRAME, frame->pitch[s / 2],
+                                            &frame->lag[s], &frame->factor[s]));
 }
 
 /* ---- the combined filter, which a search would run */
 
-struct combined {
-    float syn[LINES], wz_mem[LINES], wp_mem[LINES], p_hist[PAST];
-};
-
-static void run(struct combined *memory, const float *input, const g7231_frame *frame, int s, const struct taps *taps)
+static void run(g7231_filter_memory *memory, const float *input, const g7231_frame *frame, int s,
+                const struct taps *taps)
 {
     float out[SUBFRAME];
-    DONE(g7231_run_combined, (memory->syn, memory->wz_mem, memory->wp_mem, memory->p_hist, input, frame->a[s], taps->wz,
-                              taps->wp, frame->lag[s], frame->factor[s], out));
+    DONE(g7231_run_combined, (memory, input, frame->a[s], taps->wz, taps->wp, frame->lag[s], frame->factor[s], out));
     ANSWERED(out);
 }
 
-static void combine(struct combined *memory, const float x[SPAN], const g7231_frame *frame, const struct taps taps[4])
+static void combine(g7231_filter_memory *memory, const float x[SPAN], const g7231_frame *frame,
+                    const struct taps taps[4])
 {
     for (int s = 0; s < 4; s++) {
         static const float silence[SUBFRAME];
         float response[SUBFRAME];
         DONE(g7231_combined_impulse_response,
-             (frame->a[s], taps[s].wz, taps[s].wp, frame->lag[s], frame->factor[s], response));
+             (LIMIT, frame->a[s], taps[s].wz, taps[s].wp, frame->lag[s], frame->factor[s], response));
         ANSWERED(response);
         /* what the filter still rings with, on a copy of its memory */
-        struct combined copy = *memory;
+        g7231_filter_memory copy = *memory;
         run(&copy, silence, frame, s, &taps[s]);
         run(memory, x + AROUND + s * SUBFRAME, frame, s, &taps[s]);
     }
@@ -164,12 +161,13 @@ int main(int words, char **word)
 
     size_t frames;
     int16_t *samples = read_call(word[1], &frames);
-    static struct combined memory;
+    g7231_filter_memory memory;
     struct decoder decoder;
     struct hashes hashes = {NOTHING, NOTHING};
     g7231_coder caller, stepper;
     DONE(g7231_new_coder, (&caller));
     DONE(g7231_new_coder, (&stepper));
+    DONE(g7231_new_filter_memory, (LIMIT, &memory));
     DONE(g7231_resting_set, (decoder.set));
     DONE(g7231_lsp_freq_to_cosines, (decoder.set, decoder.lines));
 

@@ -1,4 +1,5 @@
-/* What examples/c/call.c and examples/c/rows.c share. A program defines PROGRAM, its name in messages, before this. */
+/* What examples/c/call.c, examples/c/rows.c and examples/c/gateway.c share, each as much of it as it needs. A program
+ * defines PROGRAM, its name in messages, before this. */
 #ifndef SHARED_H
 #define SHARED_H
 
@@ -18,7 +19,7 @@ enum {
 static const float spacing_hz = 31.25f;
 
 /* Every call must be done, but those whose status a program looks at itself. */
-static void done(uint32_t status, const char *door)
+static inline void done(uint32_t status, const char *door)
 {
     if (status == G7231_DONE) return;
     fprintf(stderr, PROGRAM ": %s refused: %s\n", door, g7231_refusal(status));
@@ -27,7 +28,7 @@ static void done(uint32_t status, const char *door)
 #define DONE(door, arguments) done(door arguments, #door)
 
 /* Ends the program where two have not the same bits. */
-static void same(const void *one, const void *other, size_t bytes, size_t frame, const char *part)
+static inline void same(const void *one, const void *other, size_t bytes, size_t frame, const char *part)
 {
     if (memcmp(one, other, bytes) == 0) return;
     fprintf(stderr, PROGRAM ": frame %zu: %s\n", frame, part);
@@ -38,7 +39,7 @@ static void same(const void *one, const void *other, size_t bytes, size_t frame,
 
 #define NOTHING 14695981039346656037u
 
-static void hash(uint64_t *of, const void *what, size_t bytes)
+static inline void hash(uint64_t *of, const void *what, size_t bytes)
 {
     const unsigned char *byte = what;
     for (size_t i = 0; i < bytes; i++) *of = (*of ^ byte[i]) * 1099511628211u;
@@ -49,7 +50,7 @@ struct hashes {
     uint64_t coded, called;
 };
 
-static void hash_frame(struct hashes *of, const g7231_frame *frame, const g7231_coder *coder)
+static inline void hash_frame(struct hashes *of, const g7231_frame *frame, const g7231_coder *coder)
 {
     hash(&of->coded, &frame->index, sizeof frame->index);
     hash(&of->coded, frame->pitch, sizeof frame->pitch);
@@ -57,7 +58,7 @@ static void hash_frame(struct hashes *of, const g7231_frame *frame, const g7231_
     hash(&of->called, coder, sizeof *coder);
 }
 
-static void print_hashes(const struct hashes *of)
+static inline void print_hashes(const struct hashes *of)
 {
     printf("indices and lags      %016" PRIx64 "\n", of->coded);
     printf("the frame call        %016" PRIx64 "\n", of->called);
@@ -67,7 +68,7 @@ static void print_hashes(const struct hashes *of)
 
 /* The samples with 60 zeros before and after them, and zeros where the last frame is not whole; ends the program where
  * it cannot. */
-static int16_t *read_call(const char *name, size_t *frames)
+static inline int16_t *read_call(const char *name, size_t *frames)
 {
     FILE *file = fopen(name, "rb");
     if (!file) {

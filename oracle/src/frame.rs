@@ -5,6 +5,9 @@ use crate::chain::{self, Coded, Coder, Eleven, Stages, Subframe, Ten};
 use crate::reference::{self, Answer, Rust};
 use crate::words::{Reader, Words};
 
+/// The limit of lags that a frame has.
+const LIMIT: u32 = 142;
+
 /// The Rust's functions behind document 01's refusals.
 struct Refusing<'a> {
     rust: &'a Rust,
@@ -92,11 +95,12 @@ impl Stages for Refusing<'_> {
     }
 
     fn open_loop_pitch(&self, wbuf: &[f32], half: usize) -> Result<u32, u32> {
-        Ok(self.ask(reference::open_loop_pitch, given().samples(wbuf).word(half))?.reader().number())
+        Ok(self.ask(reference::open_loop_pitch, given().number(LIMIT).samples(wbuf).word(half))?.reader().number())
     }
 
     fn harmonic_noise_shaping(&self, wbuf: &[f32], place: usize, l_ol: u32) -> Result<(u32, f32), u32> {
-        let answer = self.ask(reference::harmonic_noise_shaping, given().samples(wbuf).word(place).number(l_ol))?;
+        let speech = given().number(LIMIT).samples(wbuf).word(place).number(l_ol);
+        let answer = self.ask(reference::harmonic_noise_shaping, speech)?;
         let mut answer = answer.reader();
         Ok((answer.number(), answer.single()))
     }

@@ -104,11 +104,107 @@ const WORD_LIMITS: [u64; 40] = [
     0xffff_ffff_ffff_ffff,
 ];
 
+/// Limits of lags: the two, what is next to them and to the numbers made of them, and such as are cut or negated to one.
+const LAG_LIMITS: [u64; 20] = [
+    142,
+    82,
+    0,
+    1,
+    17,
+    18,
+    81,
+    83,
+    84,
+    85,
+    141,
+    143,
+    145,
+    338,
+    398,
+    0x0001_0052,
+    0x0001_008e,
+    0x8000_0052,
+    0xffff_ff72,
+    0xffff_ffff,
+];
+
+/// Lags and places at and next to every bound of each limit, and such as would wrap or be cut to one.
+const LAGS: [u64; 24] = [
+    0,
+    1,
+    17,
+    18,
+    19,
+    81,
+    82,
+    83,
+    84,
+    85,
+    86,
+    141,
+    142,
+    143,
+    144,
+    145,
+    146,
+    274,
+    338,
+    0x0001_0052,
+    0x7fff_ffff,
+    0x8000_0012,
+    0xffff_ffee,
+    0xffff_ffff,
+];
+const PLACES: [u64; 30] = [
+    0,
+    1,
+    59,
+    60,
+    61,
+    83,
+    84,
+    85,
+    86,
+    143,
+    144,
+    145,
+    146,
+    204,
+    205,
+    206,
+    264,
+    265,
+    266,
+    324,
+    325,
+    326,
+    385,
+    0x1_0000_0055,
+    0x1_0000_0091,
+    0x7fff_ffff_ffff_ffff,
+    0x8000_0000_0000_0055,
+    0xffff_ffff_ffff_ffab,
+    0xffff_ffff_ffff_ffc4,
+    0xffff_ffff_ffff_ffff,
+];
+
+fn word_limits(field: &Field) -> &'static [u64] {
+    match field.role {
+        "lag limit" => &LAG_LIMITS,
+        "lag" | "pitch lag" => &LAGS,
+        "place" => &PLACES,
+        _ => &WORD_LIMITS,
+    }
+}
+
 /// Numbers of 16 bits at and next to every bound.
 const SHORT_LIMITS: [u32; 12] = [0x8000, 0x8001, 0xbfff, 0xc000, 0xff00, 0xffff, 0, 1, 0x00ff, 0x0100, 0x7ffe, 0x7fff];
 
-/// How a list can be of another length: samples as singles and as 16 bits, code rows, and the bytes of their file.
+/// How a list can be of another length: samples as singles, weighted speech, samples of 16 bits, code rows, and the bytes of
+/// their file.
 const LENGTHS: [usize; 14] = [0, 1, 59, 60, 61, 144, 179, 180, 181, 204, 205, 264, 265, 384];
+const SPEECH_LENGTHS: [usize; 20] =
+    [0, 1, 60, 84, 85, 144, 145, 146, 204, 205, 206, 264, 265, 266, 324, 325, 326, 384, 385, 386];
 const SHORT_LENGTHS: [usize; 8] = [0, 1, 180, 240, 359, 360, 361, 480];
 const ROW_LENGTHS: [usize; 9] = [0, 1, 768, 1536, 2559, 2560, 2561, 4096, 5120];
 const BYTE_LENGTHS: [usize; 12] = [0, 1, 7, 8, 5120, 5127, 5128, 5129, 32_767, 32_768, 32_769, 65_535];
@@ -119,6 +215,7 @@ fn lengths(field: &Field) -> &'static [usize] {
         Kind::Places => &ROW_LENGTHS,
         Kind::Shorts if field.role == "code rows" => &ROW_LENGTHS,
         Kind::Shorts => &SHORT_LENGTHS,
+        Kind::Samples if field.name == "wbuf" => &SPEECH_LENGTHS,
         _ => &LENGTHS,
     }
 }
@@ -166,10 +263,16 @@ impl Source {
         let of = |test: fn(&Field) -> bool| self.takes.iter().filter(|field| test(field)).count() as u64;
         [
             limits().len() as u64 * 11 * of(Field::is_single),
-            WORD_LIMITS.len() as u64 * 3 * of(is_number),
+            self.number_limits().len() as u64 * 3,
             SHORT_LIMITS.len() as u64 * 11 * of(Field::is_short),
             self.list_lengths().len() as u64 * 2,
         ]
+    }
+
+    /// Each whole number with each of its limits.
+    fn number_limits(&self) -> Vec<(usize, u64)> {
+        let numbers = self.takes.iter().enumerate().filter(|(_, field)| is_number(field));
+        numbers.flat_map(|(at, field)| word_limits(field).iter().map(move |limit| (at, *limit))).collect()
     }
 
     /// Each list with each length that it can be of.
@@ -191,8 +294,7 @@ impl Source {
             let (limit, round) = in_turn(limits(), turn);
             set_limit(&mut parts[self.field_of(Field::is_single, round)], limit, round + turn, random);
         } else if turn < singles + scalars {
-            let (limit, round) = in_turn(&WORD_LIMITS, turn - singles);
-            let at = self.field_of(is_number, round);
+            let ((at, limit), _) = in_turn(&self.number_limits(), turn - singles);
             parts[at] = scalar(&self.takes[at], limit);
         } else if turn < singles + scalars + shorts {
             let (limit, round) = in_turn(&SHORT_LIMITS, turn - singles - scalars);
@@ -229,7 +331,7 @@ impl Source {
                 let place = random.below(part.len());
                 part[place] = random.bits() >> 24;
             } else if !field.is_single() {
-                let limit = *random.pick(&WORD_LIMITS);
+                let limit = *random.pick(word_limits(field));
                 *part = scalar(field, if random.once_in(4) { random.next() } else { limit });
             } else if !part.is_empty() {
                 let place = random.below(part.len());
@@ -243,7 +345,7 @@ impl Source {
                     _ => banded(random, 90, 160),
                 };
                 if field.is_list() && random.once_in(8) {
-                    part.resize(*random.pick(&LENGTHS), old);
+                    part.resize(*random.pick(lengths(field)), old);
                 }
             }
         }

@@ -4,6 +4,7 @@ use crate::chain::SPAN;
 use crate::code_rows;
 use crate::makers::*;
 use crate::random::Random;
+use crate::reference::{past, HISTORY};
 use crate::row_file::NUMBERS;
 use crate::shape::{bits, octets, shorts, word, Parts};
 
@@ -65,29 +66,47 @@ pub fn weight_subframe(random: &mut Random) -> Parts {
 }
 
 pub fn open_loop_pitch(random: &mut Random) -> Parts {
+    let (limit, fits) = lag_limit(random);
     let half = random.below(2);
     let extra = *random.pick(&[0, 0, 1, 120]);
-    vec![bits(&signal(random, 265 + 120 * half + extra)), word(half)]
+    vec![vec![limit], bits(&signal(random, past(fits) + 120 + 120 * half + extra)), word(half)]
 }
 
 pub fn harmonic_noise_shaping(random: &mut Random) -> Parts {
-    let place = 145 + 60 * random.below(4);
-    vec![bits(&signal(random, 385)), word(place), lag(random, 18, 142)]
+    let (limit, fits) = lag_limit(random);
+    let place = past(fits) + 60 * random.below(4);
+    vec![vec![limit], bits(&signal(random, past(fits) + 240)), word(place), lag(random, 18, fits)]
 }
 
-/// The combined filter, of one size or another, with its lag and factor.
-pub fn combined(random: &mut Random, growth: f32) -> Parts {
+/// The combined filter with a limit, of one size or another, with its lag and factor.
+pub fn combined(random: &mut Random, (limit, fits): (u32, u32), growth: f32) -> Parts {
     let (wz, wp) = taps(random);
     let aq = filter(random).map(|a| a * growth);
     let beta = 0.3125 * random.between(0.0, 1.0) as f32;
-    vec![bits(&aq), bits(&wz), bits(&wp), lag(random, 18, 145), bits(&[beta])]
+    vec![vec![limit], bits(&aq), bits(&wz), bits(&wp), lag(random, 18, fits + 3), bits(&[beta])]
 }
 
-/// Memories and an input before it.
+/// Memories and an input before it. Where a history has places that are not in use, they most often hold what is no number.
 pub fn run(random: &mut Random, growth: f32, input: Vec<f32>) -> Parts {
-    let filter = combined(random, growth);
-    let memories = [10, 10, 10, 145].map(|n| memory(random, n));
-    memories.into_iter().chain([bits(&input)]).chain(filter).collect()
+    let limit = lag_limit(random);
+    let mut parts = combined(random, limit, growth);
+    let mut memories = [10, 10, 10, HISTORY].map(|n| memory(random, n));
+    if !random.once_in(4) {
+        memories[3][past(limit.1)..].iter_mut().for_each(|place| *place = unlooked_at(random));
+    }
+    parts.splice(1..1, memories.into_iter().chain([bits(&input)]));
+    parts
+}
+
+/// What a call must not notice: NaNs that signal and NaNs with a payload, infinities, any bits.
+pub fn unlooked_at(random: &mut Random) -> u32 {
+    let patterns =
+        [0x7f80_0001, 0xff80_0001, 0x7fa0_1234, 0xffbf_ffff, 0x7fc0_0001, 0xffff_ffff, 0x7f80_0000, 0xff80_0000];
+    if random.once_in(4) {
+        random.bits()
+    } else {
+        *random.pick(&patterns)
+    }
 }
 
 pub fn run_combined(random: &mut Random) -> Parts {
@@ -96,7 +115,12 @@ pub fn run_combined(random: &mut Random) -> Parts {
 }
 
 pub fn combined_impulse_response(random: &mut Random) -> Parts {
-    combined(random, 1.0)
+    let limit = lag_limit(random);
+    combined(random, limit, 1.0)
+}
+
+pub fn new_filter_memory(random: &mut Random) -> Parts {
+    vec![vec![lag_limit(random).0]]
 }
 
 pub fn new_coder(_: &mut Random) -> Parts {

@@ -130,6 +130,14 @@ pub fn sparse(random: &mut Random, n: usize) -> Vec<f32> {
     out
 }
 
+/// A limit of lags, a logger's half the time and else a gateway's; now and then no such number, with the limit that the rest
+/// of the call then fits.
+pub fn lag_limit(random: &mut Random) -> (u32, u32) {
+    let fits = if random.below(9) < 5 { 142 } else { 82 };
+    let others = [0, 1, 18, 81, 83, 84, 85, 100, 141, 143, 144, 145, 338, 398, 0x8000_0052, 0xffff_ffff];
+    (if random.once_in(10) { *random.pick(&others) } else { fits }, fits)
+}
+
 /// A pitch lag within bounds; now and then another number.
 pub fn lag(random: &mut Random, low: u32, high: u32) -> Vec<u32> {
     vec![low + random.below((high - low + 1) as usize) as u32]

@@ -1,5 +1,5 @@
-//! The fifteen operations of document 01, the two of request E2, the two of request E4 and the five of request E5: each ties a door
-//! to the Rust's answer and to its inputs.
+//! The fifteen operations of document 01, the two of request E2, the two of request E4, the five of request E5 and the one of
+//! request E6: each ties a door to the Rust's answer and to its inputs.
 //!
 //! What a door takes and gives is the header's to say. Here stands what the header cannot say.
 
@@ -9,9 +9,10 @@ use crate::doors::{fields, Frame};
 use crate::inputs::Source;
 use crate::likely;
 use crate::random::Random;
-use crate::reference::{Answer, Rust};
+use crate::reference::{past, Answer, Rust};
 use crate::shape::{joined, split, Field, Kind};
 use crate::words::Reader;
+use std::ops::Range;
 use std::sync::LazyLock;
 
 /// The Rust's answer of each: its own function's, the chain's of a frame, or a model's where it has none.
@@ -26,10 +27,13 @@ mod special {
     pub use crate::special_rows::*;
 }
 
+/// The field of a filter memory of which fewer places are in use with a lower limit.
+const HISTORY: &str = "p_hist";
+
 type Measure = fn(&Seen, &mut Distances);
 
 pub struct Operation {
-    /// From 1: its place in document 01, and then those of requests E2, E4 and E5.
+    /// From 1: its place in document 01, and then those of requests E2, E4, E5 and E6.
     pub number: u32,
     pub name: &'static str,
     pub door: &'static Door,
@@ -56,7 +60,7 @@ macro_rules! operations {
     }};
 }
 
-/// In document 01's order, and last those of requests E2, E4 and E5: the distance to the published Rust, and how many answers are
+/// In document 01's order, and last those of requests E2, E4, E5 and E6: the distance to the published Rust, and how many answers are
 /// stored. None are of request E5's, whose inputs have thousands of words.
 pub static OPERATIONS: LazyLock<Vec<Operation>> = LazyLock::new(|| {
     operations! {
@@ -84,6 +88,7 @@ pub static OPERATIONS: LazyLock<Vec<Operation>> = LazyLock::new(|| {
         quantise_lsp_freq_in: None, 0;
         decode_lsp_freq_in: None, 0;
         code_frame_in: Some(distances::frame), 0;
+        new_filter_memory: None, 5;
     }
 });
 
@@ -135,9 +140,30 @@ impl Operation {
         split(&self.gives, words).unwrap_or_else(|why| panic!("{}: {why}", self.name))
     }
 
-    /// Whether two results are the same, every NaN counting as one value.
-    pub fn same(&self, one: &[u32], other: &[u32]) -> bool {
-        one == other || self.plain(one) == self.plain(other)
+    /// Whether two results of a call are the same, every NaN counting as one value, but for what the call may not touch.
+    pub fn same(&self, given: &[u32], one: &[u32], other: &[u32]) -> bool {
+        let untouched = self.untouched(given);
+        one == other || self.plain(one) == self.plain(other) && one[untouched.clone()] == other[untouched]
+    }
+
+    /// The limit of lags of a call, where there is one.
+    pub fn lag_limit(&self, given: &[u32]) -> Option<u32> {
+        let at = self.takes().iter().position(|field| field.role == "lag limit")?;
+        Some(self.parts(given)[at][0])
+    }
+
+    /// The words of the results that a call leaves as they are, bit for bit: the places of a memory's history that are not in
+    /// use with its limit.
+    fn untouched(&self, given: &[u32]) -> Range<usize> {
+        let of_a_memory = |own: &&Field| own.name == HISTORY && self.takes().iter().any(|field| field.name == own.name);
+        match (self.lag_limit(given), self.gives.iter().find(of_a_memory)) {
+            (Some(limit), Some(history)) => {
+                let before = self.gives.iter().take_while(|field| field.name != HISTORY);
+                let (start, places) = (before.map(|field| field.kind.words()).sum::<usize>(), history.kind.words());
+                start + past(limit).min(places)..start + places
+            }
+            _ => 0..0,
+        }
     }
 
     /// Results with one pattern for every NaN.
@@ -161,5 +187,31 @@ impl Operation {
             }
         }
         all
+    }
+}
+
+#[cfg(test)]
+mod tests {
+    use super::*;
+
+    /// A NaN counts for any other where a call may write one, and is itself where nothing may be touched.
+    #[test]
+    fn places_that_are_not_in_use_are_compared_as_bits() {
+        let run = named("run_combined").unwrap();
+        let given = |limit| {
+            let words = |field: &Field| vec![if field.role == "lag limit" { limit } else { 0 }; field.kind.words()];
+            joined(run.takes(), &run.takes().iter().map(words).collect())
+        };
+        let results = |place: usize, nan| {
+            let mut words = vec![0; run.gives.iter().map(|field| field.kind.words()).sum()];
+            words[30 + place] = nan;
+            words
+        };
+        let cases = [(142, 144, true), (142, 85, true), (82, 84, true), (82, 85, false), (82, 144, false)];
+        for (limit, place, same) in cases {
+            let [quiet, payload] = [0x7fc0_0000, 0x7fa0_1234].map(|nan| results(place, nan));
+            assert_eq!(run.same(&given(limit), &quiet, &payload), same, "limit {limit}, place {place}");
+            assert!(run.same(&given(limit), &payload, &payload));
+        }
     }
 }

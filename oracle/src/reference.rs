@@ -1,5 +1,6 @@
-//! The fifteen operations as document 01 has them, the splitting and combining of an index as request E4 has them, and those over
-//! code rows as request E5 has them: the refusals, in their order, and then the Rust's function, or `row_file` where it has none.
+//! The fifteen operations as document 01 and request E6 have them, the splitting and combining of an index as request E4 has
+//! them, those over code rows as request E5 has them, and a new filter memory as request E6 has it: the refusals, in their
+//! order, and then the Rust's function, or `row_file` where it has none.
 //!
 //! Each takes the words of its input and answers the words of its result, or the number of its refusal.
 
@@ -15,7 +16,21 @@ pub struct Memory {
     pub syn: Ten,
     pub wz: Ten,
     pub wp: Ten,
-    pub p_hist: [f32; 145],
+    /// The Rust has the first places alone, as many as its limit has in use.
+    pub p_hist: [f32; HISTORY],
+}
+
+/// The places of a history.
+pub const HISTORY: usize = 145;
+
+/// The Rust's functions that turn on the limit of lags.
+#[derive(Clone, Copy)]
+pub struct Lags {
+    pub open_loop_pitch: fn(&[f32], usize) -> i32,
+    pub harmonic_noise_shaping: fn(&[f32], usize, i32) -> (i32, f32),
+    pub new_memory: fn() -> Memory,
+    pub run_combined: fn(Memory, &Subframe, &Eleven, &Ten, &Ten, i32, f32) -> (Memory, Subframe),
+    pub combined_impulse_response: fn(&Eleven, &Ten, &Ten, i32, f32) -> Subframe,
 }
 
 /// The Rust's functions. There are two such sets: as published, and with document 01's rules.
@@ -37,10 +52,26 @@ pub struct Rust {
     pub lsp_to_lpc: fn(&Ten) -> Eleven,
     pub weighting_taps: fn(&Eleven) -> (Ten, Ten),
     pub weight_subframe: fn(&[f32], &Ten, &Ten, &mut Ten, &mut Ten) -> Subframe,
-    pub open_loop_pitch: fn(&[f32], usize) -> i32,
-    pub harmonic_noise_shaping: fn(&[f32], usize, i32) -> (i32, f32),
-    pub run_combined: fn(Memory, &Subframe, &Eleven, &Ten, &Ten, i32, f32) -> (Memory, Subframe),
-    pub combined_impulse_response: fn(&Eleven, &Ten, &Ten, i32, f32) -> Subframe,
+    /// With the limit 142, which the Rust has.
+    pub logger: Lags,
+    /// With 82 and 85 in its place: the same text but for these numbers.
+    pub gateway: Lags,
+}
+
+impl Rust {
+    /// The functions with a limit; with any other number there are none.
+    pub fn lags(&self, limit: u32) -> Result<&Lags, u32> {
+        match limit {
+            142 => Ok(&self.logger),
+            82 => Ok(&self.gateway),
+            _ => Err(CHOICE),
+        }
+    }
+}
+
+/// How many samples are looked back on with a limit.
+pub fn past(limit: u32) -> usize {
+    limit as usize + 3
 }
 
 pub type Answer = Result<Words, u32>;
@@ -211,39 +242,56 @@ pub fn weight_subframe(rust: &Rust, mut given: Reader) -> Answer {
 }
 
 pub fn open_loop_pitch(rust: &Rust, mut given: Reader) -> Answer {
-    let (wbuf, half) = (given.samples(), given.word());
+    let (limit, wbuf, half) = (given.number(), given.samples(), given.word());
+    let lags = rust.lags(limit)?;
     refuse(CHOICE, half > 1)?;
-    let end = 145 + 120 * half + 120;
+    let end = past(limit) + 120 * half + 120;
     refuse(LENGTH, wbuf.len() < end)?;
     finite(&[&wbuf[..end]])?;
-    Ok(Words::default().number((rust.open_loop_pitch)(&wbuf, half) as u32))
+    Ok(Words::default().number((lags.open_loop_pitch)(&wbuf, half) as u32))
 }
 
 pub fn harmonic_noise_shaping(rust: &Rust, mut given: Reader) -> Answer {
-    let (wbuf, place, l_ol) = (given.samples(), given.word(), given.number());
-    refuse(LAG, !(18..=142).contains(&l_ol))?;
+    let (limit, wbuf, place, l_ol) = (given.number(), given.samples(), given.word(), given.number());
+    let lags = rust.lags(limit)?;
+    refuse(LAG, !(18..=limit).contains(&l_ol))?;
     // The place is any machine word: nothing is added to it before it is known to be small.
-    refuse(PLACE, place < 145 || place > wbuf.len() || wbuf.len() - place < 60)?;
-    finite(&[&wbuf[place - 145..place + 60]])?;
-    let (lag, beta) = (rust.harmonic_noise_shaping)(&wbuf, place, l_ol as i32);
+    refuse(PLACE, place < past(limit) || place > wbuf.len() || wbuf.len() - place < 60)?;
+    finite(&[&wbuf[place - past(limit)..place + 60]])?;
+    let (lag, beta) = (lags.harmonic_noise_shaping)(&wbuf, place, l_ol as i32);
     Ok(Words::default().number(lag as u32).single(beta))
 }
 
+pub fn new_filter_memory(rust: &Rust, mut given: Reader) -> Answer {
+    let limit = given.number();
+    let Memory { syn, wz, wp, p_hist } = (rust.lags(limit)?.new_memory)();
+    Ok(Words::default().number(limit).singles(&syn).singles(&wz).singles(&wp).singles(&p_hist))
+}
+
 pub fn run_combined(rust: &Rust, mut given: Reader) -> Answer {
-    let memory = Memory { syn: given.singles(), wz: given.singles(), wp: given.singles(), p_hist: given.singles() };
-    let input = given.singles();
-    let (aq, wz, wp) = (given.singles(), given.singles(), given.singles());
+    let limit = given.number();
+    let (syn, wz_mem, wp_mem) = (given.singles(), given.singles(), given.singles());
+    let history = given.words(HISTORY);
+    let (input, aq, wz, wp) = (given.singles(), given.singles(), given.singles(), given.singles());
     let (lag, beta) = (given.number(), given.single());
-    refuse(LAG, !(18..=145).contains(&lag))?;
-    finite(&[&memory.syn, &memory.wz, &memory.wp, &memory.p_hist, &input, &aq, &wz, &wp, &[beta]])?;
-    let (after, out) = (rust.run_combined)(memory, &input, &aq, &wz, &wp, lag as i32, beta);
-    Ok(Words::default().singles(&after.syn).singles(&after.wz).singles(&after.wp).singles(&after.p_hist).singles(&out))
+    let lags = rust.lags(limit)?;
+    refuse(LAG, !(18..=limit + 3).contains(&lag))?;
+    // The places that are not in use stay words, so that nothing is done to them.
+    let (in_use, others) = history.split_at(past(limit));
+    let mut p_hist = [0.0; HISTORY];
+    p_hist.iter_mut().zip(in_use).for_each(|(single, bits)| *single = f32::from_bits(*bits));
+    finite(&[&syn, &wz_mem, &wp_mem, &p_hist, &input, &aq, &wz, &wp, &[beta]])?;
+    let memory = Memory { syn, wz: wz_mem, wp: wp_mem, p_hist };
+    let (after, out) = (lags.run_combined)(memory, &input, &aq, &wz, &wp, lag as i32, beta);
+    let memories = Words::default().singles(&after.syn).singles(&after.wz).singles(&after.wp);
+    Ok(memories.singles(&after.p_hist[..in_use.len()]).numbers(others).singles(&out))
 }
 
 pub fn combined_impulse_response(rust: &Rust, mut given: Reader) -> Answer {
-    let (aq, wz, wp) = (given.singles(), given.singles(), given.singles());
+    let (limit, aq, wz, wp) = (given.number(), given.singles(), given.singles(), given.singles());
     let (lag, beta) = (given.number(), given.single());
-    refuse(LAG, !(18..=145).contains(&lag))?;
+    let lags = rust.lags(limit)?;
+    refuse(LAG, !(18..=limit + 3).contains(&lag))?;
     finite(&[&aq, &wz, &wp, &[beta]])?;
-    Ok(Words::default().singles(&(rust.combined_impulse_response)(&aq, &wz, &wp, lag as i32, beta)))
+    Ok(Words::default().singles(&(lags.combined_impulse_response)(&aq, &wz, &wp, lag as i32, beta)))
 }

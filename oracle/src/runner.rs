@@ -28,6 +28,8 @@ pub struct Plan {
 pub struct Tally {
     pub calls: u64,
     pub refused: u64,
+    /// How many calls had the limit 142, and how many 82.
+    pub limits: [u64; 2],
     pub distances: Distances,
     /// The first turn that showed a fault; nothing after it is counted.
     pub fault: Option<u64>,
@@ -38,6 +40,7 @@ impl Tally {
         if self.fault.is_none() {
             self.calls += later.calls;
             self.refused += later.refused;
+            self.limits = [self.limits[0] + later.limits[0], self.limits[1] + later.limits[1]];
             self.distances.merge(later.distances);
             self.fault = later.fault;
         }

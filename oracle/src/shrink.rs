@@ -221,6 +221,7 @@ fn resting(operation: &Operation) -> Parts {
         "frequencies" => bits(&makers::resting()),
         "filter" => (0..field.kind.words()).map(|i| if i == 0 { ONE } else { 0 }).collect(),
         "spacing" => bits(&[31.25]),
+        "lag limit" => vec![142],
         "lag" | "pitch lag" => vec![18],
         "place" => word(145),
         "row file" => octets(&image(&[], &[0; NUMBERS])),
@@ -267,8 +268,8 @@ mod tests {
 
     #[test]
     fn lists_lose_the_samples_that_the_fault_does_not_need() {
-        let given = smallest("open_loop_pitch", &mut |given: &[u32]| given[0] >= 100);
-        assert_eq!(given, [&[100][..], &[0; 100], &[0, 0]].concat());
+        let given = smallest("open_loop_pitch", &mut |given: &[u32]| given[1] >= 100);
+        assert_eq!(given, [&[0, 100][..], &[0; 100], &[0, 0]].concat());
     }
 
     #[test]

@@ -4,6 +4,7 @@ use crate::code_rows::built_in;
 use crate::likely;
 use crate::makers::*;
 use crate::random::Random;
+use crate::reference::past;
 use crate::rule;
 use crate::shape::{bits, word, Parts};
 use std::f64::consts::PI;
@@ -240,25 +241,30 @@ pub fn weight_subframe(random: &mut Random, _: u64) -> Parts {
 }
 
 /// Small whole numbers, so that ratios tie; two lags whose ratios stand in the factor of 1.25 dB or tie, all but a
-/// rounding; bad samples where none is looked at.
+/// rounding; bad samples where none is looked at; a limit that is none with nothing right beside it.
 pub fn open_loop_pitch(random: &mut Random, turn: u64) -> Parts {
+    let (limit, fits) = lag_limit(random);
+    if limit != fits && turn % 2 == 0 {
+        return vec![vec![limit], vec![0x7fc0_0000; random.below(4)], word(*random.pick(&[2, 5, usize::MAX]))];
+    }
     let half = random.below(2);
-    let end = 265 + 120 * half;
+    let start = past(fits) + 120 * half;
+    let end = start + 120;
     let mut wbuf = sparse(random, end + 10);
     match turn % 6 {
         0 => wbuf[end + random.below(10)] = f32::NAN,
         1 => wbuf[random.below(4)] = *random.pick(&[f32::NAN, f32::INFINITY, 3.0]),
         2 => wbuf = (0..end).map(|_| random.below(3) as f32 - 1.0).collect(),
         3 => {}
-        _ => wbuf = two_lags(random, 145 + 120 * half, end),
+        _ => wbuf = two_lags(random, fits as usize, start, end),
     }
-    vec![bits(&wbuf), word(half)]
+    vec![vec![limit], bits(&wbuf), word(half)]
 }
 
 /// A pulse with two pulses before it: the only two lags that count, their ratios about as far apart as decides.
-fn two_lags(random: &mut Random, start: usize, end: usize) -> Vec<f32> {
-    let first = 18 + random.below(80);
-    let second = first + 1 + random.below(142 - first);
+fn two_lags(random: &mut Random, most: usize, start: usize, end: usize) -> Vec<f32> {
+    let first = 18 + random.below((most - 18).min(80));
+    let second = first + 1 + random.below(most - first);
     let factor = if random.once_in(3) { 1.0 } else { 1.333521432163324 };
     let at = start + random.below(6);
     // With a pulse of 1 and v before it, lag one has v^2 / (1 + v^2) and lag two w^2 / (1 + v^2 + w^2).
@@ -273,12 +279,17 @@ fn two_lags(random: &mut Random, start: usize, end: usize) -> Vec<f32> {
 }
 
 /// Small whole numbers, subframes that repeat the past, and such as stand at the gate; bad samples where none is looked
-/// at.
+/// at; a limit that is none with nothing right beside it.
 pub fn harmonic_noise_shaping(random: &mut Random, turn: u64) -> Parts {
-    let place = 145 + random.below(10);
-    let own = lag(random, 18, 142);
+    let (limit, fits) = lag_limit(random);
+    if limit != fits && turn % 2 == 0 {
+        let place = *random.pick(&[0, 84, 144, usize::MAX]);
+        return vec![vec![limit], vec![0x7fc0_0000; random.below(4)], word(place), vec![*random.pick(&[0, 17, 143])]];
+    }
+    let place = past(fits) + random.below(10);
+    let own = lag(random, 18, fits);
     if turn % 4 == 3 {
-        return at_the_gate(random, place);
+        return at_the_gate(random, (limit, fits), place);
     }
     let end = place + 60 + random.below(3);
     let mut wbuf = if turn % 2 == 0 { sparse(random, end) } else { signal(random, end) };
@@ -294,18 +305,18 @@ pub fn harmonic_noise_shaping(random: &mut Random, turn: u64) -> Parts {
     }
     if turn % 7 == 0 {
         wbuf.push(f32::NAN);
-        if place > 145 {
-            wbuf[place - 146] = f32::INFINITY;
+        if place > past(fits) {
+            wbuf[place - past(fits) - 1] = f32::INFINITY;
         }
     }
-    vec![bits(&wbuf), word(place), own]
+    vec![vec![limit], bits(&wbuf), word(place), own]
 }
 
 /// A pulse and its echo give C = 1; more samples bring E to where 1 - C/E is the last double that passes the gate, or a
 /// few roundings beside it.
-fn at_the_gate(random: &mut Random, place: usize) -> Parts {
+fn at_the_gate(random: &mut Random, (limit, fits): (u32, u32), place: usize) -> Parts {
     const LAST: f64 = 5_683_158_522_975_351.0 / (1u64 << 53) as f64;
-    let back = 60 + random.below(83);
+    let back = 60 + random.below(past(fits) - 62);
     let mut wbuf = vec![0.0f32; place + 60];
     (wbuf[place], wbuf[place - back]) = (1.0, 1.0);
     let energy = 1.0 / (1.0 - LAST);
@@ -319,26 +330,57 @@ fn at_the_gate(random: &mut Random, place: usize) -> Parts {
         wbuf[n] = sample;
         left -= (sample as f64).powi(2);
     }
-    let l_ol = (back as i32 + random.below(7) as i32 - 3).clamp(18, 142) as u32;
-    vec![bits(&wbuf), word(place), vec![l_ol]]
+    let l_ol = (back as i32 + random.below(7) as i32 - 3).clamp(18, fits as i32) as u32;
+    vec![vec![limit], bits(&wbuf), word(place), vec![l_ol]]
 }
 
-/// Filters that grow, up to overflow, and sparse input.
-pub fn run_combined(random: &mut Random, _: u64) -> Parts {
+/// Filters that grow, up to overflow, and sparse input; lags at and next to the bounds of each limit; a number that is none at
+/// and next to where the history is in use, and in all of what is not.
+pub fn run_combined(random: &mut Random, turn: u64) -> Parts {
     let growth = *random.pick(&[0.0, 1.0, 3.0, 30.0, 1e6]);
     let input = sparse(random, 60);
-    likely::run(random, growth, input)
-}
-
-/// The bare filter, and filters that grow.
-pub fn combined_impulse_response(random: &mut Random, turn: u64) -> Parts {
-    let growth = *random.pick(&[0.0, 3.0, 30.0, 1e6]);
-    let mut parts = likely::combined(random, growth);
-    if turn % 3 == 0 {
-        parts[..3].iter_mut().for_each(|part| part.fill(0));
-        parts[0][0] = 1f32.to_bits();
+    let mut parts = likely::run(random, growth, input);
+    let [limit, _, _, _, p_hist, .., lag, _] = &mut parts[..] else { panic!("a filter has eleven parts") };
+    match turn % 4 {
+        0 => lag[0] = bound_of_lags(random),
+        1 => p_hist[*random.pick(&[84, 85, 86, 144])] = likely::unlooked_at(random),
+        2 => {
+            lag[0] = *random.pick(&[82, 83, 84, 85]);
+            if limit[0] == 82 {
+                p_hist[85..].iter_mut().for_each(|place| *place = likely::unlooked_at(random));
+            }
+        }
+        _ => {}
+    }
+    if turn % 8 == 0 && limit[0] != 142 && limit[0] != 82 {
+        (lag[0], p_hist[0]) = (3, 0x7fc0_0000);
     }
     parts
+}
+
+/// At and next to a bound of the lags of the filter.
+fn bound_of_lags(random: &mut Random) -> u32 {
+    *random.pick(&[0, 17, 18, 60, 82, 83, 84, 85, 86, 142, 143, 145, 146, 0xffff_ffff])
+}
+
+/// The bare filter, and filters that grow; lags at and next to the bounds of each limit.
+pub fn combined_impulse_response(random: &mut Random, turn: u64) -> Parts {
+    let growth = *random.pick(&[0.0, 3.0, 30.0, 1e6]);
+    let limit = lag_limit(random);
+    let mut parts = likely::combined(random, limit, growth);
+    if turn % 3 == 0 {
+        parts[1..4].iter_mut().for_each(|part| part.fill(0));
+        parts[1][0] = 1f32.to_bits();
+    }
+    if turn % 4 == 1 {
+        parts[4] = vec![bound_of_lags(random)];
+    }
+    parts
+}
+
+/// Any number.
+pub fn new_filter_memory(random: &mut Random, _: u64) -> Parts {
+    vec![vec![if random.once_in(2) { random.bits() } else { random.below(512) as u32 }]]
 }
 
 /// There is nothing to be special.

@@ -39,7 +39,7 @@ impl Judge {
             Some(format!("status {status}, which the header does not list"))
         } else if let Some(trespass) = frame.trespass(status != 0) {
             Some(trespass)
-        } else if status == 0 && !operation.same(&gave, &wanted) {
+        } else if status == 0 && !operation.same(given, &gave, &wanted) {
             Some("other results".to_string())
         } else {
             None
@@ -89,7 +89,7 @@ mod tests {
     use crate::makers::resting;
     use crate::operations::named;
     use crate::row_file::{image, trailer_of};
-    use crate::shape::{bits, joined, octets, shorts, Parts};
+    use crate::shape::{bits, joined, octets, shorts, word, Parts};
     use crate::words::Reader;
 
     /// What a door and what it is held to both answer.
@@ -156,6 +156,87 @@ mod tests {
             let mut answer = Reader::new(&answer);
             let (start, count) = (answer.word(), answer.word());
             assert_eq!((start, &worked()[start..start + count]), (place, row));
+        }
+    }
+
+    /// The cases of request E6.
+    fn pulses(period: usize, length: usize) -> Vec<u32> {
+        bits(&(0..length).map(|k| [1000.0, 500.0].get(k % period).copied().unwrap_or(0.0)).collect::<Vec<_>>())
+    }
+
+    #[test]
+    fn pitch_is_searched_up_to_its_limit() {
+        let pitch =
+            |limit, wbuf, half| answered("open_loop_pitch", vec![vec![limit], wbuf, word(half)]).map(|lag| lag[0]);
+        assert_eq!([142, 82].map(|limit| pitch(limit, pulses(100, 385), 0)), [Ok(100), Ok(18)]);
+        assert_eq!([142, 82].map(|limit| pitch(limit, pulses(83, 385), 1)), [Ok(83), Ok(82)]);
+        for (length, half, lag) in [(204, 0, Err(1)), (205, 0, Ok(41)), (324, 1, Err(1)), (325, 1, Ok(41))] {
+            assert_eq!(pitch(82, pulses(41, length), half), lag, "{length}");
+        }
+        assert_eq!(pitch(83, vec![0x7fc0_0000; 3], 5), Err(2));
+    }
+
+    #[test]
+    fn shaping_ends_three_above_its_limit() {
+        let wbuf = bits(&(0..385usize).map(|k| ((k % 85).pow(2) * 5 % 301) as f32 - 150.0).collect::<Vec<_>>());
+        let shaping =
+            |place, l_ol| answered("harmonic_noise_shaping", vec![vec![82], wbuf.clone(), word(place), vec![l_ol]]);
+        assert_eq!(shaping(85, 82), Ok(vec![85, 0x3ea0_0000]));
+        assert_eq!([shaping(85, 83), shaping(84, 82)], [Err(4), Err(3)]);
+        // a place is refused after a lag, and a limit before anything
+        assert_eq!(shaping(84, 83), Err(4));
+        assert_eq!(answered("harmonic_noise_shaping", vec![vec![0], Vec::new(), word(0), vec![0]]), Err(2));
+    }
+
+    /// The bare filter, whose history counts, on the unit impulse, with another history where one is wanted.
+    fn filtered(limit: u32, lag: u32, alter: impl Fn(&mut [u32])) -> Result<(Vec<f32>, Vec<u32>), u32> {
+        let (ten, mut impulse, mut aq) = (vec![0; 10], vec![0; 60], vec![0; 11]);
+        (impulse[0], aq[0]) = (1f32.to_bits(), 1f32.to_bits());
+        let mut p_hist = bits(&(0..145).map(|k| (k + 1) as f32).collect::<Vec<_>>());
+        alter(&mut p_hist);
+        let memory = [vec![limit], ten.clone(), ten.clone(), ten.clone(), p_hist];
+        let filter = [impulse, aq, ten.clone(), ten, vec![lag], bits(&[0.25])];
+        let gave = answered("run_combined", memory.into_iter().chain(filter).collect())?;
+        Ok((Reader::new(&gave[175..]).singles::<60>().to_vec(), gave[30..175].to_vec()))
+    }
+
+    #[test]
+    fn a_filter_keeps_as_much_history_as_its_limit_needs() {
+        let (out, after) = filtered(82, 85, |_| {}).unwrap();
+        assert_eq!(out[..4], [0.75, -0.5, -0.75, -1.0]);
+        let left = |k: usize| match k {
+            0..=24 => (k + 61) as f32,
+            25 => 1.0,
+            26..=84 => 0.0,
+            _ => (k + 1) as f32,
+        };
+        assert_eq!(after, bits(&(0..145).map(left).collect::<Vec<_>>()));
+        assert_eq!(filtered(82, 86, |_| {}), Err(4));
+        assert_eq!(filtered(142, 85, |_| {}).unwrap().0[..3], [-14.25, -15.5, -15.75]);
+        assert_eq!(filtered(100, 3, |p_hist| p_hist[7] = 0x7fc0_0000), Err(2));
+    }
+
+    /// What is not in use is looked at by no check and comes back as it was, whatever it is.
+    #[test]
+    fn a_filter_leaves_the_history_that_is_not_in_use() {
+        let nans = [0x7f80_0001, 0xff80_0001, 0x7fa0_1234, 0xffbf_ffff, 0x7fc0_0001, 0xffff_ffff, 0x7f80_0000];
+        let fill = |p_hist: &mut [u32]| (85..145).for_each(|k| p_hist[k] = nans[k % nans.len()]);
+        let (out, after) = filtered(82, 85, fill).unwrap();
+        let mut wanted = filtered(82, 85, |_| {}).unwrap().1;
+        fill(&mut wanted);
+        assert_eq!((out, after), (filtered(82, 85, |_| {}).unwrap().0, wanted));
+        assert_eq!(filtered(82, 86, fill), Err(4));
+        assert_eq!(filtered(142, 85, |p_hist| p_hist[144] = 0x7fa0_1234), Err(5));
+        assert_eq!(filtered(82, 85, |p_hist| p_hist[84] = 0x7fa0_1234), Err(5));
+    }
+
+    #[test]
+    fn a_memory_is_made_with_one_of_two_limits() {
+        for limit in [142, 82] {
+            assert_eq!(answered("new_filter_memory", vec![vec![limit]]), Ok([vec![limit], vec![0; 175]].concat()));
+        }
+        for limit in [0, 81, 83, 85, 100, 141, 143, 145, u32::MAX] {
+            assert_eq!(answered("new_filter_memory", vec![vec![limit]]), Err(2));
         }
     }
 

@@ -184,10 +184,10 @@ pub fn weight_subframe(x: &[f32], taps: &Taps, mem: &mut WeightingMem) -> Result
     answer(status, out)
 }
 
-/// The pitch lag of one half of a frame that starts at place 145 of the weighted speech.
-pub fn open_loop_pitch(wbuf: &[f32], half: usize) -> Result<u32, Refusal> {
+/// The pitch lag, up to a limit of 142 or 82, of one half of a frame that starts at place limit + 3 of the weighted speech.
+pub fn open_loop_pitch(limit: u32, wbuf: &[f32], half: usize) -> Result<u32, Refusal> {
     let mut lag = 0;
-    let status = unsafe { g7231_open_loop_pitch(wbuf.as_ptr(), wbuf.len(), half, &mut lag) };
+    let status = unsafe { g7231_open_loop_pitch(limit, wbuf.as_ptr(), wbuf.len(), half, &mut lag) };
     answer(status, lag)
 }
 
@@ -198,54 +198,44 @@ pub struct Shaping {
     pub beta: f32,
 }
 
-/// Harmonic noise shaping of the subframe at a place, around a pitch lag.
-pub fn harmonic_noise_shaping(wbuf: &[f32], place: usize, l_ol: u32) -> Result<Shaping, Refusal> {
+/// Harmonic noise shaping of the subframe at a place, around a pitch lag of the same limit.
+pub fn harmonic_noise_shaping(limit: u32, wbuf: &[f32], place: usize, l_ol: u32) -> Result<Shaping, Refusal> {
     let mut shaping = Shaping::default();
     let Shaping { lag, beta } = &mut shaping;
-    let status = unsafe { g7231_harmonic_noise_shaping(wbuf.as_ptr(), wbuf.len(), place, l_ol, lag, beta) };
+    let status = unsafe { g7231_harmonic_noise_shaping(limit, wbuf.as_ptr(), wbuf.len(), place, l_ol, lag, beta) };
     answer(status, shaping)
 }
 
-/// The combined filter's memory: most recent first, but the 145 harmonic inputs oldest first.
-#[derive(Clone, Copy)]
-pub struct CombinedMem {
-    pub syn: Lines,
-    pub wz: Lines,
-    pub wp: Lines,
-    pub p_hist: [f32; G7231_PAST],
-}
+/// The combined filter's memory: [`new_filter_memory`] starts it, and then only [`run_combined`] alters it, but for its limit.
+pub use doors::g7231_filter_memory as FilterMemory;
 
-impl CombinedMem {
-    pub fn new() -> CombinedMem {
-        CombinedMem {
-            syn: [0.0; G7231_ORDER],
-            wz: [0.0; G7231_ORDER],
-            wp: [0.0; G7231_ORDER],
-            p_hist: [0.0; G7231_PAST],
-        }
-    }
+/// A filter memory at rest, with its caller's limit of pitch lags: 142 or 82.
+pub fn new_filter_memory(limit: u32) -> Result<FilterMemory, Refusal> {
+    let ten = [0.0; G7231_ORDER];
+    let mut mem = FilterMemory { lag_limit: 0, syn: ten, wz_mem: ten, wp_mem: ten, p_hist: [0.0; G7231_PAST] };
+    let status = unsafe { g7231_new_filter_memory(limit, &mut mem) };
+    answer(status, mem)
 }
 
 /// 60 samples through synthesis, weighting and harmonic filter.
 pub fn run_combined(
-    mem: &mut CombinedMem,
+    mem: &mut FilterMemory,
     input: &Subframe,
     aq: &Filter,
     taps: &Taps,
     shaping: Shaping,
 ) -> Result<Subframe, Refusal> {
     let mut out = [0.0; G7231_SUBFRAME];
-    let CombinedMem { syn, wz, wp, p_hist } = mem;
     let Shaping { lag, beta } = shaping;
-    let status = unsafe { g7231_run_combined(syn, wz, wp, p_hist, input, aq, &taps.wz, &taps.wp, lag, beta, &mut out) };
+    let status = unsafe { g7231_run_combined(mem, input, aq, &taps.wz, &taps.wp, lag, beta, &mut out) };
     answer(status, out)
 }
 
 /// The same filter's response to the unit impulse, from rest.
-pub fn combined_impulse_response(aq: &Filter, taps: &Taps, shaping: Shaping) -> Result<Subframe, Refusal> {
+pub fn combined_impulse_response(limit: u32, aq: &Filter, taps: &Taps, shaping: Shaping) -> Result<Subframe, Refusal> {
     let mut out = [0.0; G7231_SUBFRAME];
     let Shaping { lag, beta } = shaping;
-    let status = unsafe { g7231_combined_impulse_response(aq, &taps.wz, &taps.wp, lag, beta, &mut out) };
+    let status = unsafe { g7231_combined_impulse_response(limit, aq, &taps.wz, &taps.wp, lag, beta, &mut out) };
     answer(status, out)
 }
 

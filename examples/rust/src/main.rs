@@ -9,10 +9,10 @@ use std::io::Read;
 use std::process::exit;
 
 use g7231::doors::{
-    G7231_FRAME as FRAME, G7231_NO_LINE_SET, G7231_PAST as PAST, G7231_SPAN as SPAN, G7231_SUBFRAME as SUBFRAME,
-    G7231_WINDOW as WINDOW,
+    G7231_FRAME as FRAME, G7231_LAG_MAX, G7231_NO_LINE_SET, G7231_PAST as PAST, G7231_SPAN as SPAN,
+    G7231_SUBFRAME as SUBFRAME, G7231_WINDOW as WINDOW,
 };
-use g7231::{Bands, Coder, CombinedMem, Frame, Refusal, Rows, Shaping, Taps, WeightingMem};
+use g7231::{Bands, Coder, FilterMemory, Frame, Refusal, Rows, Shaping, Taps, WeightingMem};
 use hash::Hash;
 
 type Lines = [f32; 10];
@@ -21,6 +21,8 @@ type Filters = [[f32; 11]; 4];
 /// Samples looked at before a frame, and after it.
 const AROUND: usize = (SPAN - FRAME) / 2;
 const SPACING_HZ: f32 = 31.25;
+/// The limit of pitch lags that a frame has.
+const LIMIT: u32 = G7231_LAG_MAX as u32;
 
 /// The subframe of a frame's 360 samples.
 fn subframe(x: &[f32; SPAN], s: usize) -> &[f32; SUBFRAME] {
@@ -108,10 +110,10 @@ fn step(
     answers.singles(&speech);
     let weighted = *speech.last_chunk().unwrap();
 
-    let pitch = [g7231::open_loop_pitch(&speech, 0)?, g7231::open_loop_pitch(&speech, 1)?];
+    let pitch = [g7231::open_loop_pitch(LIMIT, &speech, 0)?, g7231::open_loop_pitch(LIMIT, &speech, 1)?];
     let (mut lag, mut factor) = ([0; 4], [0.0; 4]);
     for s in 0..4 {
-        let shaping = g7231::harmonic_noise_shaping(&speech, PAST + s * SUBFRAME, pitch[s / 2])?;
+        let shaping = g7231::harmonic_noise_shaping(LIMIT, &speech, PAST + s * SUBFRAME, pitch[s / 2])?;
         (lag[s], factor[s]) = (shaping.lag, shaping.beta);
     }
     *coder = Coder { set, lines, x_mem: mem.x, f_mem: mem.f, weighted };
@@ -120,7 +122,7 @@ fn step(
 
 /// The combined filter of each subframe, which a search would run.
 fn combine(
-    mem: &mut CombinedMem,
+    mem: &mut FilterMemory,
     x: &[f32; SPAN],
     frame: &Frame,
     taps: &[Taps; 4],
@@ -128,7 +130,7 @@ fn combine(
 ) -> Result<(), Refusal> {
     for s in 0..4 {
         let shaping = Shaping { lag: frame.lag[s], beta: frame.factor[s] };
-        let response = g7231::combined_impulse_response(&frame.a[s], &taps[s], shaping)?;
+        let response = g7231::combined_impulse_response(LIMIT, &frame.a[s], &taps[s], shaping)?;
         // what the filter still rings with, on a copy of its memory
         let ringing = g7231::run_combined(&mut mem.clone(), &[0.0; SUBFRAME], &frame.a[s], &taps[s], shaping)?;
         // a coder would send the excitation that it found
@@ -204,7 +206,7 @@ fn run(name: &str, rows: Option<&Rows>) -> Result<(), String> {
     let refused = |why: Refusal| format!("a door refused with {}: {why}", why.0);
     let samples = read_call(name)?;
     let (mut caller, mut stepper) = (g7231::new_coder(), g7231::new_coder());
-    let mut combined = CombinedMem::new();
+    let mut combined = g7231::new_filter_memory(LIMIT).map_err(refused)?;
     let set = g7231::resting_set();
     let mut decoder = Decoder { set, lines: g7231::lsp_freq_to_cosines(&set).map_err(refused)? };
     let [mut coded, mut called, mut stepped, mut answers] = [(); 4].map(|()| Hash::new());

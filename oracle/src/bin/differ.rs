@@ -37,9 +37,11 @@ The limits come first, then random bits, speech-like values and damaged copies. 
 the Rust in which each call of cos, acos and log10 is replaced by document 01's rule, as request E1 changed it; every NaN
 counts as one. A frame is compared with the Rust's functions in the chain of request E2, memories included. What is done over
 lent code rows is compared with the Rust's text in which the rows are those; loading rows and finding one, which the Rust does
-not do, with a model written from request E5. After a refusal every lent buffer must be untouched. For functions that call
-cos, acos or log10 the largest distance to the published Rust is printed, with the input that showed it, and held to document
-01's bounds; of a frame, how often its index is another.
+not do, with a model written from request E5. With the limit of lags 142 the Rust stands as it is; with 82 it has 85 and 82
+cut in as numbers, which request E6 does not ask for: the line says how many calls had each. The history that is then not in
+use must come back bit for bit. After a refusal every lent buffer must be untouched. For functions that call cos, acos or
+log10 the largest distance to the published Rust is printed, with the input that showed it, and held to document 01's bounds;
+of a frame, how often its index is another.
 
 An input is fixed by seed, function and turn. The outcome of a seed and a count is the same on any number of threads.
 The run stops at the first difference, the one of the lowest turn, and prints it; then the plainest input found that
@@ -50,6 +52,9 @@ Doors of the header that the Rust has no function for are named and not compared
 Variables, when oracle/ is built: G7231_RUST, the folder with src/encoder.rs; G7231_FOLDER, what ./install wrote.
 Exit status: 0 no difference, or no Rust to compare with; 1 a difference, or a bound broken; 2 bad usage.
 ";
+
+/// The limits of lags that a call may have.
+const LIMITS: [u32; 2] = [142, 82];
 
 /// The words of an input that a line of the outcome still shows.
 const LONGEST_SHOWN: usize = 1_000;
@@ -203,6 +208,9 @@ impl Run {
             let (given, mut random) = self.draw(operation, turn);
             let trial = self.judge.call(operation, &given, &mut random);
             tally.refused += u64::from(trial.wanted_status != 0);
+            for (own, count) in LIMITS.iter().zip(&mut tally.limits) {
+                *count += u64::from(operation.lag_limit(&given) == Some(*own));
+            }
             match trial.fault {
                 Some(_) => tally.fault = Some(turn),
                 None => self.judge.measure(operation, turn, &given, &trial, &mut tally.distances),
@@ -273,6 +281,11 @@ fn line(operation: &Operation, seed: u64, tally: &Tally, began: Instant) -> (Str
         u64::from(tally.fault.is_some()),
         began.elapsed().as_secs_f64()
     );
+    if operation.takes().iter().any(|field| field.role == "lag limit") {
+        let [logger, gateway] = tally.limits;
+        let seen = if tally.fault.is_none() { "not asked, seen equal" } else { "not asked" };
+        line += &format!("; 142: {logger}, 82: {gateway} (held to the Rust with 85 and 82 cut in: {seen})");
+    }
     for distance in &tally.distances.largest {
         line += &format!(
             "; {} at most {:.3e} from the published Rust at {}",

@@ -7,7 +7,7 @@ use oracle::random::Random;
 use std::io::Write;
 
 const HELP: &str = "\
-store: write the Rust's answers for the operations of document 01 and of requests E2 and E4, kept as crates/replay/stdin;
+store: write the Rust's answers for the operations of document 01 and of requests E2, E4 and E6, kept as crates/replay/stdin;
 none for those of request E5, whose inputs have thousands of words
 
   --seed S       the seed of the inputs (1)
@@ -20,16 +20,18 @@ its bits; a double, a length, place, half or choice is two words, high then low;
 one word and then its singles, or the 16 bits of each sample in a word; a byte is one word. A NaN among the results is 7fc00000. Refused
 results are zeros, memories as given. Half of an operation's records go through the limits; the inputs of oracle/aimed.txt
 come last, in its order. The operations of document 01 come first with theirs, and those of a request after those of the
-requests before it, so that their lines keep their numbers. The Rust's calls of cos, acos and log10 are replaced by document
-01's rules.
+requests before it, and the aimed inputs of request E6 last of all, so that lines keep their numbers. The Rust's calls of cos,
+acos and log10 are replaced by document 01's rules; with the limit of lags 82 it has 85 and 82 cut in.
 Exit status: 0 done; 1 the Rust is not at hand; 2 bad usage.
 ";
 
-/// The last operation of document 01, of request E2, of request E4 and of request E5.
-const LAST: [u32; 4] = [15, 17, 19, 24];
+/// The last operation of document 01, of request E2, of request E4, of request E5 and of request E6.
+const LAST: [u32; 5] = [15, 17, 19, 24, 25];
 
-/// Inputs that are aimed at one fault each.
+/// Inputs that are aimed at one fault each; those below a line that opens like this are of request E6, whatever operation they
+/// are of.
 const AIMED: &str = include_str!("../../aimed.txt");
+const LATER: &str = "# Request E6";
 
 fn main() {
     let mut args = Args::new(HELP);
@@ -50,6 +52,7 @@ fn main() {
         words.extend(operation.plain(&answer));
         text += &(hex(&words) + "\n");
     };
+    let (earlier, later) = AIMED.split_at(AIMED.find(LATER).unwrap_or(AIMED.len()));
     let mut rest = &chosen[..];
     for last in LAST {
         let (some, later) = rest.split_at(rest.partition_point(|one| one.number <= last));
@@ -60,21 +63,26 @@ fn main() {
                 store(operation, operation.source.draw(&mut random, turn));
             }
         }
-        for (operation, given) in aimed() {
+        for (operation, given) in aimed(earlier) {
             if some.iter().any(|one| one.number == operation.number) {
                 store(operation, given);
             }
         }
     }
     assert!(rest.is_empty(), "LAST has no place for the operations from {} on", rest[0].name);
+    for (operation, given) in aimed(later) {
+        if chosen.iter().any(|one| one.number == operation.number) {
+            store(operation, given);
+        }
+    }
     if let Err(why) = std::io::stdout().write_all(text.as_bytes()) {
         fail(&format!("standard output: {why}"));
     }
 }
 
-/// The inputs of oracle/aimed.txt, each with its operation.
-fn aimed() -> impl Iterator<Item = (&'static Operation, Vec<u32>)> {
-    let lines = AIMED.lines().filter(|line| !line.is_empty() && !line.starts_with('#'));
+/// Inputs of oracle/aimed.txt, each with its operation.
+fn aimed(text: &str) -> impl Iterator<Item = (&'static Operation, Vec<u32>)> + '_ {
+    let lines = text.lines().filter(|line| !line.is_empty() && !line.starts_with('#'));
     lines.map(|line| parse(line).unwrap_or_else(|why| fail(&format!("oracle/aimed.txt: {why}: {line}"))))
 }
 
