@@ -1,6 +1,6 @@
 // The combined filter (§2.12): synthesis, formant weighting and harmonic noise shaping of one subframe.
 ghost use mathlib.Core.Path.{_≡_};
-ghost use mathlib.Core.Bool.{not};
+ghost use mathlib.Core.Bool.{true, not};
 ghost use mathlib.Core.List.{_∷_, []};
 ghost use Prim.Native.Nat.{_+_, _<_, _≤_};
 ghost use lib.ListN.{set};
@@ -9,7 +9,7 @@ ghost use Rattle.float.specs.Loop.{over};
 ghost use Rattle.float.specs.Refusal.{any, first};
 ghost use Rattle.float.specs.Single.{_⊖_, _⊗_};
 ghost use Rattle.weighting.specs.inner.Delay.{behind};
-ghost use Rattle.lag_limit.specs.Limit.{reach};
+ghost use Rattle.lag_limit.specs.Limit.{known, reach};
 ghost use Rattle.harmonic_history.specs.History.{places};
 ghost use Rattle.combined.specs.Memory.{atRest, newMemory, noMemory, floats};
 ghost use Rattle.combined.specs.Cascade.{settings, synthesised, cascaded};
@@ -208,7 +208,7 @@ fn run(
     lag: u32,
     beta: f32,
 ) -> Combined
-    requires { ⌜ (mem .limit ≤ 142) × (18 ≤ lag) × (lag ≤ reach (mem .limit)) ⌝ }
+    requires { ⌜ (known (mem .limit) ≡ true) × (18 ≤ lag) × (lag ≤ reach (mem .limit)) ⌝ }
     ensures { λ r. ⌜ r ≡ done mem (cascaded (settings aq wz wp lag beta) input mem 60) ⌝ }
 {
     let syn_mem = mem.syn;
@@ -216,11 +216,10 @@ fn run(
     let wp_mem = mem.wp;
     let p_hist = mem.p_hist;
     let own_limit = mem.limit;
-    let reach = own_limit as usize + 3;
     let mut syn = weighting::start_delay(syn_mem);
     let mut xs = weighting::start_delay(wz_mem);
     let mut fs = weighting::start_delay(wp_mem);
-    let mut p = harmonic_history::start(p_hist, reach);
+    let mut p = harmonic_history::start(p_hist, own_limit);
     let mut out = [0.0f32; 60];
     let back = lag as usize;
     sixty_samples(
@@ -236,11 +235,12 @@ fn run(
         &mut p,
         &mut out,
     );
+    let before = mem.p_hist;
     let after = CombinedMem {
         syn: weighting::last_ten(&syn),
         wz: weighting::last_ten(&xs),
         wp: weighting::last_ten(&fs),
-        p_hist: harmonic_history::after(p_hist, p, reach),
+        p_hist: harmonic_history::after(before, p, own_limit),
         limit: own_limit,
     };
     Combined {
@@ -273,15 +273,14 @@ fn refused(status: u32, mem: CombinedMem) -> Combined
 }
 
 fn memory_finite(mem: CombinedMem) -> bool
-    requires { ⌜ mem .limit ≤ 142 ⌝ }
+    requires { ⌜ known (mem .limit) ≡ true ⌝ }
     ensures { λ r. ⌜ r ≡ not (any notFinite (floats mem)) ⌝ }
 {
     let syn = mem.syn;
     let wz = mem.wz;
     let wp = mem.wp;
     let p_hist = mem.p_hist;
-    let reach = mem.limit as usize + 3;
-    let history = harmonic_history::used_finite(p_hist, reach);
+    let history = harmonic_history::used_finite(p_hist, mem.limit);
     float::all_finite(&syn) & (float::all_finite(&wz) & (float::all_finite(&wp) & history))
 }
 

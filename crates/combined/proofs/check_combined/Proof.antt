@@ -2,7 +2,7 @@
 use borrow.Author.Needs.{needs}
 use borrow.Author.Tests.{not-false}
 use mathlib.Core.Path.{_≡_, sym, _∙_}
-use mathlib.Core.Bool.{Bool, false, not}
+use mathlib.Core.Bool.{Bool, true, false, not}
 use Prim.Native.Nat.{ℕ, _≤_}
 use Rattle.float.proofs.Refusal.{checks, joined}
 use Rattle.lag_limit.specs.Limit.{known}
@@ -10,9 +10,12 @@ use Rattle.lag_limit.proofs.Known.{known-within}
 use Rattle.combined.proofs.check_combined.Statement.{statement}
 use Rattle.combined.proofs.check_combined.Tie as tie
 
--- a limit that is known is at most 142
+-- what the first test has shown of the limit, and that no number is too large for what is three above it
+right : (limit : ℕ) (t : Bool) → t ≡ known limit → not t ≡ false → known limit ≡ true
+right limit t e h = sym e ∙ not-false t h
+
 most : (limit : ℕ) (t : Bool) → t ≡ known limit → not t ≡ false → limit ≤ 142
-most limit t e h = known-within limit (sym e ∙ not-false t h) .1
+most limit t e h = known-within limit (right limit t e h) .1
 
 pub check-combined-spec : {M : Type 1} → statement M
 check-combined-spec =
@@ -32,7 +35,7 @@ check-combined-spec =
     -- returns-3
     (λ c. search checks)
     -- memory-finite-requires
-    (λ c κs. search most)
+    (λ c κs. search right)
     -- given-finite-requires
     (λ c κs. search needs)
     -- returns-4

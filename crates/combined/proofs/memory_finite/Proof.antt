@@ -8,10 +8,6 @@ pub memory-finite-spec : {M : Type 1} → statement M
 memory-finite-spec =
     tie.close
     (tie.spec
-    -- cast-reach
-    (λ c. search needs)
-    -- add-reach
-    (λ c. search needs)
     -- used-finite-requires
     (λ c κs. search needs)
     -- slice-aggregate-all-finite

@@ -1,15 +1,17 @@
 -- `combined::run` meets its contract: the arrays hold the memory given, and after sixty samples what the cascade leaves. Assumes nothing.
 use borrow.Author.Needs.{needs}
 use mathlib.Core.Path.{_≡_, refl, ap, _∙_}
+use mathlib.Core.Bool.{true}
 use mathlib.Core.List.{List, _++_}
-use Prim.Native.Nat.{_+_, _-_, _≤_}
+use Prim.Native.Nat.{ℕ, _+_, _-_, _≤_}
 use native.Mathlib.Omega.{arith}
 use lib.ListN.{drop}
 use lib.Ieee.{Float}
 use Rattle.float.specs.Loop.{over}
 use Rattle.float.proofs.Table.{filled-none}
 use Rattle.weighting.specs.inner.Delay.{behind}
-use Rattle.lag_limit.specs.Limit.{reach}
+use Rattle.lag_limit.specs.Limit.{known, reach}
+use Rattle.lag_limit.proofs.Known.{known-within}
 use Rattle.harmonic_history.specs.History.{places}
 use Rattle.combined.specs.declared.CombinedMem.{CombinedMem}
 use Rattle.combined.specs.declared.Combined.{Combined}
@@ -21,23 +23,23 @@ use Rattle.combined.proofs.Stands.{Stands, held-first, answer, subframe
 use Rattle.combined.proofs.run.Statement.{statement}
 use Rattle.combined.proofs.run.Tie as tie
 
+-- a lag of a limit that is known stays within the places that there are
+near : (limit lag : ℕ) → (known limit ≡ true) × (18 ≤ lag) × (lag ≤ reach limit) → lag ≤ places
+near limit lag h = omega (arith, h .2, known-within limit (h .0) .1)
+
 -- sixty samples, and what is copied out
 copied : (q : Settings) (input : List Float) (mem : CombinedMem) (held last : Arrays) {m₁ m₂ m₃ kept : List Float}
-    → mem .limit ≤ 142 → 18 ≤ q .lag → q .lag ≤ reach (mem .limit) → Stands (reach (mem .limit)) q 0 (start mem) held → last ≡ over 0 60 (sampled q input) held
+    → known (mem .limit) ≡ true → 18 ≤ q .lag → q .lag ≤ reach (mem .limit) → Stands (reach (mem .limit)) q 0 (start mem) held → last ≡ over 0 60 (sampled q input) held
     → m₁ ≡ behind 60 (last .syn) → m₂ ≡ behind 60 (last .xs) → m₃ ≡ behind 60 (last .fs) → kept ≡ drop (places + 60 - reach (mem .limit)) (last .p) ++ spare mem
     → _≡_ {A = Combined} (record { status = 0; out = last .out; mem = record { syn = m₁; wz = m₂; wp = m₃; «p_hist» = kept; limit = mem .limit } })
     (done mem (cascaded q input mem 60))
-copied q input mem held last most low high r e e₁ e₂ e₃ eh =
-    rw (e₁, e₂, e₃, eh) (ap (answer mem) e ∙ subframe q input mem most (omega arith) high held r)
+copied q input mem held last right low high r e e₁ e₂ e₃ eh =
+    rw (e₁, e₂, e₃, eh) (ap (answer mem) e ∙ subframe q input mem (known-within (mem .limit) right .1) (omega arith) high held r)
 
 pub run-spec : {M : Type 1} → statement M
 run-spec =
     tie.close
     (tie.spec
-    -- cast-reach
-    (λ c. search needs)
-    -- add-reach
-    (λ c. search needs)
     -- start-delay-requires
     (λ c κs. search needs)
     -- start-delay-requires-2
@@ -47,7 +49,12 @@ run-spec =
     -- start-requires
     (λ c κs. search needs)
     -- sixty-samples-requires
-    (λ c κs. search needs)
+    (λ c κs.
+    -- past what is lent, and past what is copied in
+    let history = c .before .before .before .before .before .before .before .before .before in
+    let delay₁ = history .before .before .before in
+    let given = delay₁ .before .before .before .before .before in
+    near (given .args .mem .limit) (given .args .lag) (given .pre))
     -- last-ten-requires
     (λ c κs. search needs)
     -- last-ten-requires-2
@@ -57,18 +64,18 @@ run-spec =
     -- after-requires
     (λ c κs.
     -- past the last calls, and past what is lent and copied in before the sixty samples
-    let sixty = c .before .before .before .before .before .before in
+    let sixty = c .before .before .before .before .before .before .before in
     let history = sixty .before .before .before .before .before .before .before .before .before .before in
     let delay₁ = history .before .before .before in
     let given = delay₁ .before .before .before .before .before in
-    omega (arith, given .pre .0))
+    given .pre .0)
     -- returns
     (λ c.
     -- from the last call back to the start
     let memory₃ = c .before in
     let memory₂ = memory₃ .before .before in
     let memory₁ = memory₂ .before .before in
-    let sixty = memory₁ .before .before in
+    let sixty = memory₁ .before .before .before in
     let altered = sixty .before .before .before .before .before in
     let lent = altered .before .before .before .before in
     let history = lent .before in

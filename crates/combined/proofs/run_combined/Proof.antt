@@ -2,14 +2,13 @@
 use borrow.Author.Needs.{needs}
 use borrow.Author.Tests.{ltb-false, not-false}
 use mathlib.Core.Path.{_≡_}
-use mathlib.Core.Bool.{Bool, false, not}
+use mathlib.Core.Bool.{Bool, true, false, not}
 use mathlib.Core.List.{[], _∷_}
 use Prim.Native.Nat.{ℕ, _≤_}
 use lib.Dec.{ltb}
 use Rattle.float.specs.Refusal.{first}
 use Rattle.float.proofs.Refusal.{answer-refused, answer-done, clear, or-clear}
 use Rattle.lag_limit.specs.Limit.{known, reach}
-use Rattle.lag_limit.proofs.Known.{known-within}
 use Rattle.combined.specs.Run.{wrongLag, runCombined}
 use Rattle.combined.proofs.run_combined.Statement.{statement}
 use Rattle.combined.proofs.run_combined.Tie as tie
@@ -21,8 +20,8 @@ module _ (limit lag s : ℕ) (b : Bool) (e : s ≡ first ((2, not (known limit))
       let z = clear ((2, not (known limit)) ∷ (4, wrongLag limit lag) ∷ (5, b) ∷ []) tt e h in
       (z .0, z .1 .0)
 
-  most : limit ≤ 142
-  most = known-within limit (not-false _ (shown .0)) .1
+  own : known limit ≡ true
+  own = not-false _ (shown .0)
 
   right : (ltb lag 18 ≡ false) × (ltb (reach limit) lag ≡ false)
   right = or-clear (ltb lag 18) (ltb (reach limit) lag) (shown .1)
@@ -45,6 +44,6 @@ run-combined-spec =
     -- returns
     (λ c. search answer-refused)
     -- run-requires
-    (λ c κs. (search most, search low, search high))
+    (λ c κs. (search own, search low, search high))
     -- returns-2
     (λ c. search answer-done))

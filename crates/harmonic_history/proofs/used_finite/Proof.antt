@@ -1,31 +1,35 @@
--- `harmonic_history::used_finite` meets its contract: the part that is cut starts at 0. Assumes nothing.
+-- `harmonic_history::used_finite` meets its contract: a limit that is known is one of the two. Assumes nothing.
 use borrow.Author.Needs.{needs}
-use native.Mathlib.Nat.{sub-zero}
 use mathlib.Core.Path.{_≡_}
+use mathlib.Core.Bool.{true}
 use mathlib.Core.Bool.{Bool}
 use mathlib.Core.List.{List}
-use Prim.Native.Nat.{ℕ, _-_}
+use Prim.Native.Nat.{ℕ}
+use lib.ListN.{take}
 use lib.Ieee.{Float}
 use lib.Ieee.Scale.{finite}
-use lib.ListN.{take}
 use Rattle.float.specs.Refusal.{all}
+use Rattle.lag_limit.specs.Limit.{known, reach}
+use Rattle.lag_limit.proofs.Known.{otherwise-82}
 use Rattle.harmonic_history.proofs.used_finite.Statement.{statement}
 use Rattle.harmonic_history.proofs.used_finite.Tie as tie
 
-from-zero : (t : Bool) (h : List Float) (n : ℕ) → t ≡ all finite (take (n - 0) h) → t ≡ all finite (take n h)
-from-zero t h n e = rw sub-zero at e
+module _ (limit : ℕ) (h : List Float) (t : Bool) where
+  logger : limit ≡ 142 → t ≡ all finite (take 145 h) → t ≡ all finite (take (reach limit) h)
+  logger e f = rw e f
+
+  gateway : known limit ≡ true → (limit ≡ 142 → ⊥) → t ≡ all finite (take 85 h) → t ≡ all finite (take (reach limit) h)
+  gateway k n f = rw (otherwise-82 limit k n) f
 
 pub used-finite-spec : {M : Type 1} → statement M
 used-finite-spec =
     tie.close
     (tie.spec
-    -- sub-all-finite
-    (λ c. search needs)
-    -- part-all-finite-start
-    (λ c. search needs)
-    -- part-all-finite-end
-    (λ c. search needs)
-    -- all-finite-requires
+    -- first-finite-requires
     (λ c κs. search needs)
     -- returns
-    (λ c. search from-zero))
+    (λ c. search logger)
+    -- first-finite-requires-2
+    (λ c κs. search needs)
+    -- returns-2
+    (λ c. search gateway))
