@@ -19,6 +19,15 @@ use Rattle.pitch.specs.Pitch.{start}
 use Rattle.pitch.specs.inner.Readable.{Half}
 
 module _ (limit : ℕ) (w : List Float) (half : ℕ) (shown : Half limit w half) where
+  -- the limit is one that `search_in` takes
+  pub limit-from : 22 ≤ limit
+  limit-from =
+      let within = known-within limit (shown .own-limit) in
+      omega (arith, within .0)
+
+  pub limit-to : limit ≤ 142
+  limit-to = known-within limit (shown .own-limit) .1
+
   -- the half and its history, as the code cuts them
   abbrev pub part : List Float
   part = take (start limit half + 120 - (start limit half - reach limit)) (drop (start limit half - reach limit) w)
@@ -40,9 +49,8 @@ module _ (limit : ℕ) (w : List Float) (half : ℕ) (shown : Half limit w half)
   part-short =
       let o = start limit half in
       let m = reach limit in
-      let within = known-within limit (shown .own-limit) in
       let n : length part ≡ o + 120 - (o - m) = part-length in
-      omega (arith, within .1)
+      omega (arith, limit-to)
 
   module _ (x rest : List Float) (e : x ≡ part ++ rest) where
     pub half-copied : Copy x w (start limit half - reach limit) (reach limit + 120)

@@ -2,14 +2,12 @@
 // The caller's limit stands first: its lags end there, and reach = limit + 3 samples of history stand before what is looked at (request E6).
 use lags::Best;
 ghost use mathlib.Core.Path.{_≡_};
-ghost use mathlib.Core.Bool.{true};
 ghost use Prim.Native.Nat.{suc, _+_, _≤_, max};
 ghost use lib.Ieee.{nan};
 ghost use lib.ListN.{getD};
 ghost use Rattle.float.specs.Table.{table};
 ghost use Rattle.float.specs.Double.{_⊠_};
 ghost use Rattle.float.specs.Refusal.{first};
-ghost use Rattle.lag_limit.specs.Limit.{known, reach};
 ghost use Rattle.lags.specs.Search.{winner, preferred};
 ghost use Rattle.pitch.specs.Gate.{atMostOne, passes};
 ghost use Rattle.pitch.specs.Pitch.{refusedPitch, start, pitchRefusals, openLoopPitch};
@@ -73,17 +71,6 @@ fn check_half(limit: u32, wbuf: &[f32], half: usize) -> u32
     0
 }
 
-// The search up to the limit, compiled for each of the two.
-fn search_to(limit: u32, x: &[f64; 265], squares: &[f64; 265]) -> Best
-    requires { ⌜ known limit ≡ true ⌝ ∗ ⌜ now squares ≡ table 265 (λ i. getD (now x) i nan ⊠ getD (now x) i nan) ⌝ }
-    ensures { λ r. ⌜ r ≡ winner preferred (now (x .entry)) (reach limit) 120 18 (suc limit) ⌝ }
-{
-    if limit == 142 {
-        return lags::search_in(x, squares, 142);
-    }
-    lags::search_in(x, squares, 82)
-}
-
 // The lag of a half that the check has passed.
 fn search_half(limit: u32, wbuf: &[f32], half: usize) -> u32
     requires { ⌜ Half limit (now wbuf) half ⌝ }
@@ -96,7 +83,7 @@ fn search_half(limit: u32, wbuf: &[f32], half: usize) -> u32
     lags::widen(&mut x, &wbuf[o - reach..end]);
     let mut squares = [0.0f64; 265];
     lags::square(&mut squares, &x);
-    let best = search_to(limit, &x, &squares);
+    let best = lags::search_in(&x, &squares, limit);
     best.lag
 }
 

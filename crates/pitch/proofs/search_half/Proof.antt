@@ -1,6 +1,6 @@
 -- `pitch::search_half` meets its contract: the copy of the half and its history has the buffer's winner. Assumes nothing.
 use borrow.Author.Needs.{needs}
-use Rattle.pitch.proofs.Half.{part-finite, part-short, found}
+use Rattle.pitch.proofs.Half.{limit-from, limit-to, part-finite, part-short, found}
 use Rattle.pitch.proofs.search_half.Statement.{statement}
 use Rattle.pitch.proofs.search_half.Tie as tie
 
@@ -30,7 +30,7 @@ search-half-spec =
     (λ c κs. (search needs, (search part-short, search part-finite)))
     -- square-requires
     (λ c κs. search needs)
-    -- search-to-requires
-    (λ c κs. search needs)
+    -- search-in-requires
+    (λ c κs. search (needs, limit-from, limit-to))
     -- returns
     (λ c. search found))
