@@ -6,7 +6,7 @@ use Prim.Native.Nat.{ℕ, zero, suc, _+_, _-_, _≤_}
 use native.Mathlib.Nat.{add-zero}
 use native.Mathlib.Numerals.{add-one}
 use native.Mathlib.Omega.{arith}
-use lib.ListN.{set, length-set}
+use lib.ListN.{length, set, length-set}
 use lib.Seq.{getD-set-other}
 use lib.Ieee.{Float, nan}
 use Rattle.float.specs.Loop.{times, over}
@@ -82,6 +82,12 @@ stays d step alters m n a =
       p = unmoved (a .p) (omega arith) (one .p) (r .p);
       out = unmoved (a .out) (omega arith) (one .out) (r .out);
     })
+
+-- so many samples leave the harmonic inputs as many as they were
+pub samples-long : (q : Settings) (input : List Float) (n : ℕ) (a : Arrays) → length (over 0 n (sampled q input) a .p) ≡ length (a .p)
+samples-long q input n a =
+    keeps (λ (x : Arrays). length (x .p) ≡ length (a .p)) (n - 0) (λ i. sampled q input (0 + i)) a refl
+    (λ i x l r. sample-alters-one q input (0 + i) x .p .long ∙ r)
 
 module _ (q : Settings) (input : List Float) (m n : ℕ) (a : Arrays) where
   pub steps-move-nothing : Stays (m + 1) m a (over m n (stepped q input) a)

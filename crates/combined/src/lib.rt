@@ -236,11 +236,12 @@ fn run(
         &mut out,
     );
     let before = mem.p_hist;
+    harmonic_history::settle(&mut p, before, own_limit);
     let after = CombinedMem {
         syn: weighting::last_ten(&syn),
         wz: weighting::last_ten(&xs),
         wp: weighting::last_ten(&fs),
-        p_hist: harmonic_history::after(before, p, own_limit),
+        p_hist: harmonic_history::last_145(p),
         limit: own_limit,
     };
     Combined {

@@ -1,12 +1,12 @@
 // The history of harmonic inputs around a subframe (request E6). The places in use stand first in it. While a subframe is worked they stand
-// last of 145, so that whatever the limit the newest has one place; those not in use are left out. Each function goes one way for either limit,
-// so that each is compiled for its own number of places: the loggers' is as fast as without the other.
+// last of 145, so that whatever the limit the newest has one place; those not in use are left out. What the loggers need is what stood here
+// without the gateway, and nothing is added to it but a test.
 ghost use mathlib.Core.Path.{_≡_};
 ghost use mathlib.Core.Bool.{true};
 ghost use mathlib.Core.List.{_++_};
 ghost use Prim.Native.Nat.{_+_, _-_, _≤_};
 ghost use lib.Ieee.Scale.{finite};
-ghost use lib.ListN.{take, drop};
+ghost use lib.ListN.{length, take, drop};
 ghost use Rattle.float.specs.Refusal.{all};
 ghost use Rattle.lag_limit.specs.Limit.{known, reach};
 ghost use Rattle.harmonic_history.specs.History.{places, used, unused};
@@ -37,27 +37,40 @@ pub fn start(p_hist: [f32; PLACES], limit: u32) -> [f32; PLACES + 60]
     laid(p_hist, 85)
 }
 
-fn kept(p_hist: [f32; PLACES], p: [f32; PLACES + 60], count: usize) -> [f32; PLACES]
-    requires { ⌜ count ≤ places ⌝ }
-    ensures { λ r. ⌜ r ≡ drop (places + 60 - count) p ++ unused count «p_hist» ⌝ }
+// Up to 82: the last 85 of all, and what was not in use as it was, where the last 145 stand.
+fn moved(p: &mut [f32; PLACES + 60], before: [f32; PLACES])
+    requires { ⌜ length (now p) ≡ places + 60 ⌝ }
+    ensures { λ _. ⌜ drop 60 (now (p .exit)) ≡ drop 120 (now (p .entry)) ++ unused 85 before ⌝ }
 {
-    let mut history = p_hist;
-    let from = PLACES + 60 - count;
-    for i in 0..count {
-        history[i] = p[from + i];
+    let old = *p;
+    for i in 0..85 {
+        p[60 + i] = old[120 + i];
     }
-    history
+    for k in 0..60 {
+        p[145 + k] = before[85 + k];
+    }
 }
 
-// The history after a subframe: the last inputs in the places in use, and the others as they were.
-pub fn after(p_hist: [f32; PLACES], p: [f32; PLACES + 60], limit: u32) -> [f32; PLACES]
-    requires { ⌜ known limit ≡ true ⌝ }
-    ensures { λ r. ⌜ r ≡ drop (places + 60 - reach limit) p ++ unused (reach limit) «p_hist» ⌝ }
+// After the last sample: where the last 145 stand there is now the history as it is kept, the last inputs in the places in use and the others
+// as they were. For the loggers that is so already.
+pub fn settle(p: &mut [f32; PLACES + 60], before: [f32; PLACES], limit: u32)
+    requires { ⌜ length (now p) ≡ places + 60 ⌝ ∗ ⌜ known limit ≡ true ⌝ }
+    ensures { λ _. ⌜ drop 60 (now (p .exit)) ≡ drop (places + 60 - reach limit) (now (p .entry)) ++ unused (reach limit) before ⌝ }
 {
-    if limit == 142 {
-        return kept(p_hist, p, 145);
+    if limit != 142 {
+        moved(p, before);
     }
-    kept(p_hist, p, 85)
+}
+
+// The history after a subframe.
+pub fn last_145(p: [f32; PLACES + 60]) -> [f32; PLACES]
+    ensures { λ r. ⌜ r ≡ drop 60 p ⌝ }
+{
+    let mut history = [0.0f32; PLACES];
+    for i in 0..PLACES {
+        history[i] = p[i + 60];
+    }
+    history
 }
 
 fn first_finite(p_hist: [f32; PLACES], count: usize) -> bool

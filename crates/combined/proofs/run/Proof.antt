@@ -5,7 +5,7 @@ use mathlib.Core.Bool.{true}
 use mathlib.Core.List.{List, _++_}
 use Prim.Native.Nat.{ℕ, _+_, _-_, _≤_}
 use native.Mathlib.Omega.{arith}
-use lib.ListN.{drop}
+use lib.ListN.{length, drop}
 use lib.Ieee.{Float}
 use Rattle.float.specs.Loop.{over}
 use Rattle.float.proofs.Table.{filled-none}
@@ -19,6 +19,7 @@ use Rattle.combined.specs.Memory.{spare}
 use Rattle.combined.specs.Cascade.{Settings, start, cascaded}
 use Rattle.combined.specs.inner.Step.{Arrays, arrays, sampled}
 use Rattle.combined.specs.Run.{done}
+use Rattle.combined.proofs.Steps.{samples-long}
 use Rattle.combined.proofs.Stands.{Stands, held-first, answer, subframe}
 use Rattle.combined.proofs.run.Statement.{statement}
 use Rattle.combined.proofs.run.Tie as tie
@@ -55,27 +56,30 @@ run-spec =
     let delay₁ = history .before .before .before in
     let given = delay₁ .before .before .before .before .before in
     near (given .args .mem .limit) (given .args .lag) (given .pre))
+    -- settle-requires
+    (λ c κs.
+    -- past what is lent, and past what is copied in
+    let sixty = c .before .before in
+    let history = sixty .before .before .before .before .before .before .before .before .before .before in
+    let delay₁ = history .before .before .before in
+    let given = delay₁ .before .before .before .before .before in
+    (ap (λ (a : Arrays). length (a .p)) (sixty .sixty-samples .ensures) ∙ samples-long _ _ 60 _ ∙ search (needs, history .start .ok), given .pre .0))
     -- last-ten-requires
     (λ c κs. search needs)
     -- last-ten-requires-2
     (λ c κs. search needs)
     -- last-ten-requires-3
     (λ c κs. search needs)
-    -- after-requires
-    (λ c κs.
-    -- past the last calls, and past what is lent and copied in before the sixty samples
-    let sixty = c .before .before .before .before .before .before .before in
-    let history = sixty .before .before .before .before .before .before .before .before .before .before in
-    let delay₁ = history .before .before .before in
-    let given = delay₁ .before .before .before .before .before in
-    given .pre .0)
+    -- last-145-requires
+    (λ c κs. search needs)
     -- returns
     (λ c.
     -- from the last call back to the start
     let memory₃ = c .before in
     let memory₂ = memory₃ .before .before in
     let memory₁ = memory₂ .before .before in
-    let sixty = memory₁ .before .before .before in
+    let settled = memory₁ .before .before in
+    let sixty = settled .before .before .before in
     let altered = sixty .before .before .before .before .before in
     let lent = altered .before .before .before .before in
     let history = lent .before in
@@ -94,4 +98,4 @@ run-spec =
       out = filled-none 60 _ _ refl;
     })
     (sixty .sixty-samples .ensures)
-    (memory₁ .last-ten .ensures) (memory₂ .last-ten2 .ensures) (memory₃ .last-ten3 .ensures) (c .after .ensures)))
+    (memory₁ .last-ten .ensures) (memory₂ .last-ten2 .ensures) (memory₃ .last-ten3 .ensures) (c .last-145 .ensures ∙ settled .settle .ensures)))
