@@ -40,11 +40,19 @@ pub fn functions(text: &str) -> Result<Vec<Function>, String> {
         let public = line.split_whitespace().next() == Some("pub");
         let mut found = function(&text[at + 3..], public)?;
         if let Some(of) = type_around(before) {
-            found.name = format!("{}_{}", found.name, of.to_lowercase());
+            found.name = format!("{}_{}", found.name, door_word(of));
         }
         all.push(found);
     }
     Ok(all)
+}
+
+/// What the doors call a type: its own name in small letters, but for the one whose own name is the Rust's.
+fn door_word(of: &str) -> String {
+    match of {
+        "CombinedMem" => "filter_memory".to_string(),
+        _ => of.to_lowercase(),
+    }
 }
 
 /// The type in whose `impl` block a text ends.
