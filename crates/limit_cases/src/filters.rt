@@ -112,6 +112,12 @@ pub fn out_of_reach() -> bool {
     refused(over(memory(82, 0, 1.0), 86), 4, 0, 1.0, 82)
 }
 
+// What a memory of either limit answers to a lag.
+pub fn of_the_other_limit(lag: u32) -> bool {
+    let own = over(memory(142, 0, 1.0), lag);
+    (own.status == 0) & refused(over(memory(82, 0, 1.0), lag), 4, 0, 1.0, 82)
+}
+
 // Everything is wrong with it, and the limit is looked at first.
 pub fn other_limit() -> bool {
     let nan = 0.0f32 / 0.0;

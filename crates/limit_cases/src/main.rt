@@ -114,6 +114,12 @@ fn other_cases(tally: Tally) -> Tally {
         b"a new memory of 142 or 82 is at rest with that limit; 0, 83 and 145 are refused with 2 and zeros",
         filters::new_memories(),
     );
+    let lag = speech::shaped_100();
+    let t = case(
+        t,
+        b"lag 100, which shaping answers up to 142, is taken by a filter of 142 and refused with 4 by one of 82",
+        (lag == 100) & filters::of_the_other_limit(lag),
+    );
     case(
         t,
         b"the impulse response up to 82 has lag 59 and takes lag 85; 86 is refused with 4, and limit 83 with 2",

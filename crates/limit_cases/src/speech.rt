@@ -77,3 +77,11 @@ pub fn shaping_refused(limit: u32, place: usize, l: u32, status: u32) -> bool {
     let params = answer.params;
     (answer.status == status) & (params.lag == 0) & float::same_bits(params.beta, 0)
 }
+
+// The lag of pulses 100 apart, shaped up to 142 around that lag.
+pub fn shaped_100() -> u32 {
+    let wbuf = pulses(100);
+    let answer = pitch::harmonic_noise_shaping(142, &wbuf, 145, 100);
+    let params = answer.params;
+    params.lag
+}

@@ -45,10 +45,10 @@ further before first k p full l r =
     let v = getD before (85 + k) nan in
     let there : 145 + k ≡ 60 + (85 + k) = omega arith in
     let apart : take 85 (drop 60 (set p (145 + k) v)) ≡ take 85 (drop 60 p) =
-      rw (there, drop-set-add 60 p (85 + k) v) (take-set-le 85 (drop 60 p) (85 + k) v (omega arith)) in
+    rw (there, drop-set-add 60 p (85 + k) v) (take-set-le 85 (drop 60 p) (85 + k) v (omega arith)) in
     record {
       copied =
-        copied-more 85 145 205 60 before k p (85 + k) (145 + k) refl refl (omega arith) (omega arith) l (r .copied);
+          copied-more 85 145 205 60 before k p (85 + k) (145 + k) refl refl (omega arith) (omega arith) l (r .copied);
       kept = apart ∙ r .kept;
     }
 
@@ -58,13 +58,13 @@ all old before first p i k full whole l m r s =
     let e : i ≡ 85 = omega (arith, r .most) in
     let f : k ≡ 60 = omega (arith, s .copied .most) in
     let inputs : take 85 (drop 60 p) ≡ drop 120 old =
-      s .kept ∙ rw e at (r .same) ∙ take-all 85 (drop 120 old) (simp length-drop (omega arith)) in
+    s .kept ∙ rw e at (r .same) ∙ take-all 85 (drop 120 old) (simp length-drop (omega arith)) in
     let long : length (drop 145 p) ≤ 60 = simp length-drop (omega (arith, s .copied .long)) in
     let others : drop 85 (drop 60 p) ≡ drop 85 before =
-      drop-drop 85 60 p
-      ∙ sym (take-all 60 (drop 145 p) long)
-      ∙ rw f at (s .copied .same)
-      ∙ take-all 60 (drop 85 before) (simp length-drop (omega arith)) in
+    drop-drop 85 60 p
+    ∙ sym (take-all 60 (drop 145 p) long)
+    ∙ rw f at (s .copied .same)
+    ∙ take-all 60 (drop 85 before) (simp length-drop (omega arith)) in
     sym (take-append-drop 85 (drop 60 p))
     ∙ ap (λ (x : List Float). x ++ drop 85 (drop 60 p)) inputs
     ∙ ap (λ (y : List Float). drop 120 old ++ y) others
