@@ -18,8 +18,8 @@ use Rattle.harmonic_history.specs.History.{places, last}
 use Rattle.combined.specs.declared.CombinedMem.{CombinedMem}
 use Rattle.combined.specs.declared.Combined.{Combined}
 use Rattle.combined.specs.Memory.{history, spare, Alike}
-use Rattle.combined.specs.Cascade.{Settings, Cascade, start, cascaded}
-use Rattle.combined.specs.Run.{after, done, refusal, wrongLag, wild, combinedRefusals, runCombined}
+use Rattle.combined.specs.Cascade.{Settings, cascaded}
+use Rattle.combined.specs.Run.{after, done, refusal, wild, combinedRefusals, runCombined}
 use Rattle.combined.proofs.History.{harmonic-length}
 
 module _ (q : Settings) (input : List Float) (mem : CombinedMem) where

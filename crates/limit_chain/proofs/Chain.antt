@@ -1,6 +1,6 @@
 -- With one limit the filter takes every lag that shaping answers: it never refuses one with 4, and neither does the impulse response. For shaping
 -- answers lags from 18 up to three above the limit, and so far back a memory of that limit reaches. Document 02, E6.5 and E6.9. Assumes nothing.
-use mathlib.Core.Path.{_≡_, refl, sym}
+use mathlib.Core.Path.{_≡_, refl}
 use mathlib.Core.List.{List}
 use Prim.Native.Nat.{ℕ, _≤_}
 use lib.Ieee.{Float}

@@ -33,6 +33,36 @@ g7231-bare-new-filter-memory-spec =
     -- new-requires
     (λ c κs. search needs)
     -- returns
-    (λ c. (search (told status), (search (stored status limit), (search (stored status synthesis), (search (stored status zeros), (search (stored status poles), search (stored status history)))))))
+    (λ c. (
+      search (told status),
+      (
+        search (stored status limit),
+        (
+          search (stored status synthesis),
+          (
+            search (stored status zeros),
+            (
+              search (stored status poles),
+              search (stored status history),
+            ),
+          ),
+        ),
+      ),
+    ))
     -- returns-2
-    (λ c. (search (told status), (search (kept status limit), (search (kept status synthesis), (search (kept status zeros), (search (kept status poles), search (kept status history))))))))
+    (λ c. (
+      search (told status),
+      (
+        search (kept status limit),
+        (
+          search (kept status synthesis),
+          (
+            search (kept status zeros),
+            (
+              search (kept status poles),
+              search (kept status history),
+            ),
+          ),
+        ),
+      ),
+    )))

@@ -32,7 +32,8 @@ near limit lag h = omega (arith, h .2, known-within limit (h .0) .1)
 copied : (q : Settings) (input : List Float) (mem : CombinedMem) (held last : Arrays) {m₁ m₂ m₃ kept : List Float}
     → known (mem .limit) ≡ true → 18 ≤ q .lag → q .lag ≤ reach (mem .limit) → Stands (reach (mem .limit)) q 0 (start mem) held → last ≡ over 0 60 (sampled q input) held
     → m₁ ≡ behind 60 (last .syn) → m₂ ≡ behind 60 (last .xs) → m₃ ≡ behind 60 (last .fs) → kept ≡ drop (places + 60 - reach (mem .limit)) (last .p) ++ spare mem
-    → _≡_ {A = Combined} (record { status = 0; out = last .out; mem = record { syn = m₁; wz = m₂; wp = m₃; «p_hist» = kept; limit = mem .limit } })
+    → _≡_ {A = Combined}
+    (record { status = 0; out = last .out; mem = record { syn = m₁; wz = m₂; wp = m₃; «p_hist» = kept; limit = mem .limit } })
     (done mem (cascaded q input mem 60))
 copied q input mem held last right low high r e e₁ e₂ e₃ eh =
     rw (e₁, e₂, e₃, eh) (ap (answer mem) e ∙ subframe q input mem (known-within (mem .limit) right .1) (omega arith) high held r)

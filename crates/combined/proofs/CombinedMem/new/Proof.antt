@@ -1,7 +1,6 @@
 -- `combined::CombinedMem::new` meets its contract: a limit that is not known is refused, and another is kept. Assumes nothing.
 use borrow.Author.Needs.{needs}
-use borrow.Author.Tests.{not-true, not-false}
-use mathlib.Core.Path.{_≡_, _∙_, sym}
+use mathlib.Core.Path.{_≡_}
 use mathlib.Core.Bool.{Bool, true, false, not}
 use Prim.Native.Nat.{ℕ}
 use Rattle.lag_limit.specs.Limit.{known}
