@@ -153,17 +153,23 @@ pub fn challenge(best: Best, lag: u32, ratio: f64) -> Best
         return won;
     }
     let top = best.ratio;
+    // rebuilt from its fields: a copy of the whole would carry the padding between them too, and so go through memory
+    let kept = Best {
+        found: best.found,
+        ratio: top,
+        lag: best.lag,
+    };
     let far = (best.lag as u64) + 18;
     if (lag as u64) < far {
         if top < ratio {
             return won;
         }
-        return best;
+        return kept;
     }
     if top * 1.333521432163324 < ratio {
         return won;
     }
-    best
+    kept
 }
 
 // The lags from, .., to - 1 compete, with the sums of the eight lags that begin at first.
