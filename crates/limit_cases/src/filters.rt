@@ -3,10 +3,10 @@ use combined::Combined;
 use combined::CombinedMem;
 ghost use Prim.Native.Nat.{_<_, _≤_, _+_};
 
-// 1, 2, .., 145.
-fn counting() -> [f32; 145] {
+// 145 numbers: from, from + 1, ..
+fn counting(from: f32) -> [f32; 145] {
     let mut list = [0.0f32; 145];
-    let mut next = 1.0f32;
+    let mut next = from;
     for k in 0..145 {
         list[k] = next;
         next = next + 1.0;
@@ -19,7 +19,7 @@ fn memory(limit: u32, place: usize, x: f32) -> CombinedMem
     requires { ⌜ place < 145 ⌝ }
 {
     let none = [0.0f32; 10];
-    let mut p_hist = counting();
+    let mut p_hist = counting(1.0);
     p_hist[place] = x;
     CombinedMem {
         syn: none,
@@ -96,6 +96,25 @@ pub fn input_at_60() -> bool {
     let p_hist = after.p_hist;
     let moved = counts_on(p_hist, 0, 85, 61.0) & silent(p_hist, 86, 145);
     (answer.status == 0) & starts(out, -14.25, -15.5, -15.75, -16.0) & moved
+}
+
+// Up to 82, over the last 85 of them: the same outputs, and afterwards the last 85 of what is kept there.
+pub fn with_less_history() -> bool {
+    let none = [0.0f32; 10];
+    let mem = CombinedMem {
+        syn: none,
+        wz: none,
+        wp: none,
+        p_hist: counting(61.0),
+        limit: 82,
+    };
+    let answer = over(mem, 85);
+    let out = answer.out;
+    let after = answer.mem;
+    let p_hist = after.p_hist;
+    let old = counts_on(p_hist, 0, 25, 121.0);
+    let new = counts_on(p_hist, 25, 26, 1.0) & silent(p_hist, 26, 85);
+    (answer.status == 0) & starts(out, -14.25, -15.5, -15.75, -16.0) & old & new
 }
 
 // A refusal: its number, sixty zeros, and a history that counts from `at` on, with its limit.

@@ -50,6 +50,11 @@ fn pitch_cases(tally: Tally) -> Tally {
         b"up to 82 half 1 takes 325 samples, and 324 are refused with 1",
         speech::half_is(82, 41, 325, 1, 41) & speech::half_refused(82, 41, 324, 1, 1),
     );
+    let t = case(
+        t,
+        b"without 60 samples of history pulses 41 apart have the same lag up to 82, and pulses 100 apart lag 18",
+        speech::with_less_history(41, 1, 41, 41) & speech::with_less_history(100, 0, 100, 18),
+    );
     case(
         t,
         b"pitch up to 83, of half 5 of three NaNs, is refused with 2",
@@ -67,6 +72,11 @@ fn shaping_cases(tally: Tally) -> Tally {
         t,
         b"shaping up to 82 refuses lag 83 with 4, and place 84 with 3",
         speech::shaping_refused(82, 85, 83, 4) & speech::shaping_refused(82, 84, 82, 3),
+    );
+    let t = case(
+        t,
+        b"without 60 samples of history shaping around 41 is the same up to 82, and around 83 it is refused with 4",
+        speech::shaped_with_less_history(),
     );
     case(
         t,
@@ -90,6 +100,11 @@ fn filter_cases(tally: Tally) -> Tally {
         t,
         b"at 142, lag 85 over 1 to 145: -14.25, -15.5, -15.75, -16, ..",
         filters::input_at_60(),
+    );
+    let t = case(
+        t,
+        b"at 82, lag 85 over 61 to 145: the same outputs, and the last 85 of what 142 keeps are kept",
+        filters::with_less_history(),
     );
     let t = case(
         t,

@@ -38,6 +38,17 @@ pub fn half_refused(limit: u32, period: usize, count: usize, half: usize, status
     half_answers(limit, period, count, half, status, 0)
 }
 
+// The lag of a half up to 142, and up to 82 without the first 60 samples.
+pub fn with_less_history(period: usize, half: usize, lag: u32, lag_of_less: u32) -> bool
+    requires { ⌜ 2 ≤ period ⌝ }
+{
+    let wbuf = pulses(period);
+    let long = pitch::open_loop_pitch(142, &wbuf, half);
+    let short = pitch::open_loop_pitch(82, &wbuf[60..385], half);
+    let accepted = (long.status == 0) & (short.status == 0);
+    accepted & (long.lag == lag) & (short.lag == lag_of_less)
+}
+
 // Everything is wrong with it, and the limit is looked at first.
 pub fn other_limit() -> bool {
     let nan = 0.0f32 / 0.0;
@@ -76,6 +87,19 @@ pub fn shaping_refused(limit: u32, place: usize, l: u32, status: u32) -> bool {
     let answer = pitch::harmonic_noise_shaping(limit, &wbuf, place, l);
     let params = answer.params;
     (answer.status == status) & (params.lag == 0) & float::same_bits(params.beta, 0)
+}
+
+// Around lag 41 the same settings up to 142, and up to 82 without the first 60 samples; lag 83 is refused there.
+pub fn shaped_with_less_history() -> bool {
+    let wbuf = pulses(41);
+    let long = pitch::harmonic_noise_shaping(142, &wbuf, 145, 41);
+    let short = pitch::harmonic_noise_shaping(82, &wbuf[60..385], 85, 41);
+    let a = long.params;
+    let b = short.params;
+    let same = (a.lag == 41) & (b.lag == 41) & (a.beta == b.beta) & (0.0 < a.beta);
+    let above = pitch::harmonic_noise_shaping(142, &wbuf, 145, 83);
+    let refused = pitch::harmonic_noise_shaping(82, &wbuf[60..385], 85, 83);
+    same & (above.status == 0) & (refused.status == 4)
 }
 
 // The lag of pulses 100 apart, shaped up to 142 around that lag.

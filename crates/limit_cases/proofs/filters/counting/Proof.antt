@@ -5,10 +5,10 @@ use Rattle.limit_cases.proofs.filters.counting.Statement.{statement}
 use Rattle.limit_cases.proofs.filters.counting.Tie as tie
 
 abbrev Inv-loop : tie.InvT-loop
-Inv-loop list₀ next₀ k₀ list next k = k ≤ 145
+Inv-loop from list₀ next₀ k₀ list next k = k ≤ 145
 
 abbrev μ-loop : tie.MeasureT-loop
-μ-loop list₀ next₀ k₀ list next k = 145 - k
+μ-loop from list₀ next₀ k₀ list next k = 145 - k
 
 pub counting-spec : {M : Type 1} → statement M
 counting-spec =
