@@ -1,6 +1,7 @@
 /* A conference gateway beside a logger, over the same call. Pitch is searched up to lag 82 and up to 142: the gateway
- * needs 85 samples of weighted speech before a frame where the logger needs 145. Its combined filter has a memory of its
- * own limit; the places of the history that are then not in use are filled with marks and must keep them. */
+ * needs 85 samples of weighted speech before a frame where the logger needs 145, and finds the logger's lag wherever that
+ * is at most 82. Its combined filter has a memory of its own limit; the places of the history that are then not in use are
+ * filled with marks and must keep them. */
 #define PROGRAM "gateway"
 #include "g7231.h"
 #include "shared.h"
@@ -61,7 +62,7 @@ int main(int words, char **word)
     if (words == 2 && (strcmp(word[1], "--help") == 0 || strcmp(word[1], "-h") == 0)) return fputs(usage, stdout), 0;
     if (words != 2) return fputs(usage, stderr), 2;
 
-    size_t frames, apart = 0;
+    size_t frames, apart = 0, within = 0;
     int16_t *samples = read_call(word[1], &frames);
     float speech[PAST + FRAME] = {0};        /* weighted: what is before the frame, and the frame */
     const float *const own = speech + OTHERS; /* as much of it as a gateway keeps */
@@ -82,6 +83,10 @@ int main(int words, char **word)
         for (size_t half = 0; half < 2; half++) {
             DONE(g7231_open_loop_pitch, (G7231_LAG_MAX, speech, PAST + FRAME, half, &logger[half]));
             DONE(g7231_open_loop_pitch, (LIMIT, own, OWN_PAST + FRAME, half, &gateway[half]));
+            /* proved: a longer history moves no lag that the shorter one can hold */
+            if (logger[half] > LIMIT) continue;
+            same(&logger[half], &gateway[half], sizeof *logger, k, "a logger's lag of at most 82 is not the gateway's");
+            within++;
         }
         for (size_t s = 0; s < 4; s++)
             combine(&memory, own, x + AROUND + s * SUBFRAME, &filter[s], s, gateway[s / 2]);
@@ -93,6 +98,7 @@ int main(int words, char **word)
                gateway[0], gateway[1], differ ? "   *" : "");
     }
     printf("* other lags than a logger's: %zu of %zu frames\n", apart, frames);
+    printf("a logger's lag of at most %d is the gateway's too: %zu of %zu halves\n", LIMIT, within, 2 * frames);
     printf("the %d places of the filter's history that are not in use are as they were\n", OTHERS);
 
     /* a limit is one of two numbers, when a memory is made and whenever it is used */
