@@ -15,7 +15,8 @@ import re
 import sys
 
 NAME = r"[^\s(){}.;,@\"«»]+"
-DECLARED = re.compile(rf"(?m)^ *(?:(?:abbrev|pub|unfoldable) +)*({NAME})(?: +[({{][^:\n]*)? :(?= |$)")
+DECLARED = re.compile(rf"(?m)^ *(?:(?:abbrev|pub|unfoldable) +)*({NAME})(?: \{{[^{{}}\n]*\}})* :(?= |$)")
+RECORD = re.compile(r"(?m)^( *)(?:pub )?record (?!\{)[^\n]*where\n((?:(?:\1 +[^\n]*)?\n)*)")
 USE = re.compile(r"(?m)^((?:ghost )?use )([^\s;{]+?)(?:\.(\{[^}]*\}))?(?: as [^\s;]+)?;?$")
 MADE = re.compile(r"(invariant|decreases)-loop|.*-(requires|holds|again|less)(-\d+)?$")
 STRING = re.compile(r'"(?:[^"\\\n]|\\.)*"')
@@ -68,21 +69,21 @@ def imports(text, crates):
     return own, aliases
 
 
-def turned(text, table, fields, comments=True):
-    """The text with each word of the table in its new spelling; behind a dot only those of fields."""
+def turned(text, table, every, fields):
+    """The text with each word of the table in its new spelling; behind a dot and as a label those of every crate's."""
 
     def word(match):
-        dot, name = match[1], match[2]
+        dot, name, label = match[1], match[2], match[3]
         if dot:
-            return dot + (fields.get(name) or name)
-        return table.get(name) or name
+            return dot + (every.get(name) or name) + label
+        return (table.get(name) or label and fields.get(name) or name) + label
 
     def line(one):
         code, mark, comment = one.partition("-- ")
-        code = re.sub(rf"(\.?)({NAME})", word, code)
-        if comment and comments:
+        code = re.sub(rf"(\.?)({NAME})((?: =(?= |$))?)", word, code)
+        if comment:
             # prose has hyphens of its own
-            comment = re.sub(rf"(\.?)({NAME})", lambda m: m[0] if "-" in m[2] else word(m), comment)
+            comment = re.sub(rf"(\.?)({NAME})()", lambda m: m[0] if "-" in m[2] else word(m), comment)
         return code + mark + comment
 
     return "\n".join(line(one) for one in text.split("\n"))
@@ -94,10 +95,12 @@ def main(words):
         print(__doc__)
         return 0 if words[0] in ("-h", "--help") else 2
     crates = {name for name in os.listdir("crates") if os.path.isdir(os.path.join("crates", name, "src"))}
-    declared, everywhere = {}, {}
+    declared, everywhere, fields = {}, {}, {}
     for path in texts(".antt"):
         declared[path] = {name for name in DECLARED.findall(read(path)) if spelt(name)}
         everywhere.update({name: spelt(name) for name in declared[path]})
+        for record in RECORD.finditer(read(path)):
+            fields.update({name: spelt(name) for name in DECLARED.findall(record[2]) if spelt(name)})
     # a lemma that would have its function's name gets `_lem`
     functions = {spelt(name) for name in everywhere if "-" not in name}
     for path in declared:
@@ -126,7 +129,7 @@ def main(words):
             if new in news:
                 met.append(f"{path}: {old} and {news[new]} would both be {new}")
             news[new] = old
-        new_text = turned(text, table, everywhere)
+        new_text = turned(text, table, everywhere, fields)
         if new_text != text:
             written[path] = new_text
     # the edits that must be refused speak of the files that they alter
@@ -136,7 +139,7 @@ def main(words):
             if line.startswith("file: "):
                 table = tables.get(os.path.join(path.rsplit("/", 2)[0], line[6:].strip()), {})
             elif line.startswith(("old: ", "new: ")):
-                line = line[:5] + turned(line[5:], table, everywhere)
+                line = line[:5] + turned(line[5:], table, everywhere, fields)
             elif line.startswith("shown: ") and "#" in line:
                 where, name = line.rsplit("#", 1)
                 line = where + "#" + (everywhere.get(name) or name)

@@ -45,8 +45,8 @@ module _ (k : ℕ) (h : k * 13176795 < 2 ^ 47) where
   near g u U a b = record {
     low = omega arith;
     high = omega arith;
-    even-low = λ e. omega arith;
-    even-high = λ e. omega arith;
+    even_low = λ e. omega arith;
+    even_high = λ e. omega arith;
   }
 
   -- w is k steps

@@ -1,6 +1,6 @@
 -- The distance of both ends, counted in steps of 2^-13. Assumes nothing.
 use Rattle.std.proofs.Common.{◌≡◌, ℕ, zero, suc, ◌+◌, ◌-◌, ◌*◌, ◌/◌, ◌^◌, ◌<◌, ◌≤◌, max, Bool, true, false, cond, T, ltb, List, ℤ, pos, ◌+ℤ◌, neg_ℤ, nat_abs, sym, refl, ap, ◌∙◌, subst, lt_of_lt_of_le, le_of_lt, mul-le-mul_right, lt-suc_self, zero-mul, add-one, arith, lit<, lit≤, pow_pos, to_z-of_z, w32, w64, Fits, SFits, to_z, of_z, ltb-false, ltb-true}
-use native.Mathlib.Nat.{max_eq_left, max_eq_right}
+use native.Mathlib.Nat.{max-eq_left, max-eq_right}
 use lib.Signed.{non_neg}
 use lib.Ieee.{Float, fin, binary32, round, of_bits, mul, le, lt, to_signed}
 use Rattle.float.specs.Single.{◌⊗◌, single}
@@ -111,10 +111,10 @@ max_scaled a b G = go (ltb a b) refl
     go : (t : Bool) → ltb a b ≡ t → max (a * G) (b * G) ≡ max a b * G
     go true e =
         let h : a ≤ b = le_of_lt (ltb-true a b e) in
-        max_eq_right (mul-le-mul_right G h) ∙ ap (λ (n : ℕ). n * G) (sym (max_eq_right h))
+        max-eq_right (mul-le-mul_right G h) ∙ ap (λ (n : ℕ). n * G) (sym (max-eq_right h))
     go false e =
         let h : b ≤ a = ltb-false a b e in
-        max_eq_left (mul-le-mul_right G h) ∙ ap (λ (n : ℕ). n * G) (sym (max_eq_left h))
+        max-eq_left (mul-le-mul_right G h) ∙ ap (λ (n : ℕ). n * G) (sym (max-eq_left h))
 
 largest_scaled : (f g : ℕ → ℕ) (G n : ℕ) → ((i : ℕ) → i < n → f i ≡ g i * G) → largest f n ≡ largest g n * G
 unfolding largest

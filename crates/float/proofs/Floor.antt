@@ -3,7 +3,7 @@
 use mathlib.Core.Path.{◌≡◌, refl, sym, ap, ◌∙◌}
 use mathlib.Core.Bool.{Bool, false}
 use Prim.Native.Nat.{ℕ, ◌*◌, ◌/◌, ◌^◌, ◌≤◌, ◌<◌, zero-le}
-use native.Mathlib.Nat.{zero-div, mul-one, mul_assoc, mul_comm, mul_left_comm, mul_right_comm, mul-pos, mul-le-mul_right, mul-lt-mul_of_pos_right, div_div_eq_div_mul, div-lt_iff_lt-mul, le_trans, le_of_eq, lt_of_le_of_lt, lt-suc_self, le_of_suc-le-suc}
+use native.Mathlib.Nat.{zero-div, mul-one, mul_assoc, mul_comm, mul_left_comm, mul_right_comm, mul-pos, mul-le-mul_right, mul-lt-mul_of_pos_right, div-div-eq-div-mul, div-lt_iff_lt-mul, le_trans, le_of_eq, lt_of_le_of_lt, lt-suc_self, le_of_suc-le-suc}
 use lib.IntN.{ℤ}
 use lib.Ieee.{Float, nan, inf, fin, up, down}
 use lib.Ieee.Exact.{HasValue}
@@ -30,7 +30,7 @@ unfolding floor
 floor_div p q k nan = zero-div k
 floor_div p q k (inf s) = zero-div k
 floor_div p q k (fin s m e) =
-    div_div_eq_div_mul (m * up e * p) (down e * q) k ∙ ap (λ (d : ℕ). m * up e * p / d) (mul_assoc (down e) q k)
+    div-div-eq-div-mul (m * up e * p) (down e * q) k ∙ ap (λ (d : ℕ). m * up e * p / d) (mul_assoc (down e) q k)
 
 -- p / q and r / t are one fraction, so n p / (d q) and n r / (d t) are
 pub cross : (p q r t n d : ℕ) → p * t ≡ r * q → n * p * (d * t) ≡ n * r * (d * q)

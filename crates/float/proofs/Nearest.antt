@@ -21,23 +21,23 @@ module _ (q r d n : ℕ) (parts : q * d + r ≡ n) (R : r < d) where
   under c = record {
     low = omega arith;
     high = omega arith;
-    even-low = λ e. omega arith;
-    even-high = λ e. omega arith;
+    even_low = λ e. omega arith;
+    even_high = λ e. omega arith;
   }
 
   over : d < r * 2 → NearestTo n d (suc q)
   over c =
       let next : suc q * d ≡ q * d + d = suc-mul q d in
-      record { low = omega arith; high = omega arith; even-low = λ e. omega arith; even-high = λ e. omega arith }
+      record { low = omega arith; high = omega arith; even_low = λ e. omega arith; even_high = λ e. omega arith }
 
   -- a half goes to the even one of the two
   tie : r * 2 ≡ d → (b : ℕ) → q % 2 ≡ b → NearestTo n d (q + b)
   tie c zero e =
       let here : (q + 0) * d ≡ q * d = ap (λ (x : ℕ). x * d) (add-zero q) in
-      record { low = omega arith; high = omega arith; even-low = λ h. omega arith; even-high = λ h. omega arith }
+      record { low = omega arith; high = omega arith; even_low = λ h. omega arith; even_high = λ h. omega arith }
   tie c (suc zero) e =
       let next : (q + 1) * d ≡ q * d + d = add-mul q 1 d ∙ ap (λ (x : ℕ). q * d + x) (one-mul d) in
-      record { low = omega arith; high = omega arith; even-low = λ h. omega arith; even-high = λ h. omega arith }
+      record { low = omega arith; high = omega arith; even_low = λ h. omega arith; even_high = λ h. omega arith }
   tie c (suc (suc b)) e = absurd (none b e)
     where
       none : (b : ℕ) → q % 2 ≡ suc (suc b) → ⊥
@@ -88,7 +88,7 @@ pub closest_whole : (k d : ℕ) → 0 < d → closest (k * d) d ≡ k
 closest_whole k d D =
     sym
     (nearest_only (k * d) d k D
-    (record { low = omega arith; high = omega arith; even-low = λ e. omega arith; even-high = λ e. omega arith }))
+    (record { low = omega arith; high = omega arith; even_low = λ e. omega arith; even_high = λ e. omega arith }))
 
 -- ---- less than half of one is none
 pub closest_none : (n d : ℕ) → n * 2 < d → closest n d ≡ 0
@@ -96,7 +96,7 @@ closest_none n d h =
     let none : 0 * d ≡ 0 = zero-mul d in
     sym
     (nearest_only n d 0 (omega arith)
-    (record { low = omega arith; high = omega arith; even-low = λ e. refl; even-high = λ e. refl }))
+    (record { low = omega arith; high = omega arith; even_low = λ e. refl; even_high = λ e. refl }))
 
 -- ---- n / c cut to a whole number first: nothing is lost where nothing is cut off, or where it all is less than half of d
 pub nearest_cut : (n c d : ℕ) → 0 < c → 0 < d → (n / c * c ≡ n) ⊎ (n * 2 < c * d) → closest (n / c) d ≡ closest n (c * d)
@@ -130,8 +130,8 @@ odd_divisor w h s =
     is q r m e l f z s = record {
       low = omega arith;
       high = omega arith;
-      even-low = halfway s;
-      even-high = λ t. omega arith;
+      even_low = halfway s;
+      even_high = λ t. omega arith;
     }
       where
         halfway : (w < 2 * suc (2 * h)) ⊎ (w % 2 ≡ 0) → 2 * w ≡ 2 * (q * (2 * suc (2 * h))) + 2 * suc (2 * h) → q % 2 ≡ 0

@@ -87,12 +87,12 @@ module _ (rows : List ℤ) where
     coder_usable : (ts : List Turn) → Usable (turns start ts).coder
     coder_usable ts =
         let q = quantised_usable [] (turns start ts).coder (empty_sent ts) in
-        record { ten = (line.stays ts).0.ten; finite-set = q.0; bounded = q.1 }
+        record { ten = (line.stays ts).0.ten; finite_set = q.0; bounded = q.1 }
 
     decoder_usable : (ts : List Turn) → Usable (turns start ts).decoder
     decoder_usable ts =
         let d = decoded_usable _ (turns start ts).decoder (line.takes ts (record { given = []; brings = true }) (rw (empty_sent ts) tt)) in
-        record { ten = (line.stays ts).1.ten; finite-set = d.0; bounded = d.1 }
+        record { ten = (line.stays ts).1.ten; finite_set = d.0; bounded = d.1 }
 
     pub reached_coder : (ends : Ends) → Reached ends → Usable ends.coder
     reached_coder ends r = subst (λ (e : Ends). Usable e.coder) r.are (coder_usable r.by)

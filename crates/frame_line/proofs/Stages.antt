@@ -90,7 +90,7 @@ module _ (rows : List ℤ) (R : T (rows_pass rows)) (frames : List FrameTurn) wh
       let fin = samples_finite samples small in
       let a = (windows x).a3 in
       let af = last_filter x All-there fin in
-      let p : Spaced hz = record { finite-hz = (floats_shown hz [] h).0; in-range = o } in
+      let p : Spaced hz = record { finite_hz = (floats_shown hz [] h).0; in_range = o } in
       let u = quantised_usable a af in
       let set = (quantised a).set in (
         windows_done x All-there fin,

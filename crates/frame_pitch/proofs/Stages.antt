@@ -53,7 +53,7 @@ module _ (w : List Float) (long : length w ≡ 385) where
         is_true _ (all_part finite w a n 385 h (rw whole (passes _ fine)))
 
     pub half_shown : (half : ℕ) → half ≤ 1 → Half 142 w half
-    half_shown half h = record { own-limit = refl; one = h; long = omega (arith, long); fine = part_fine 0 (start 142 half + 120) (omega arith) }
+    half_shown half h = record { own_limit = refl; one = h; long = omega (arith, long); fine = part_fine 0 (start 142 half + 120) (omega arith) }
 
     lag_done : (half : ℕ) → half ≤ 1 → open_loop_pitch 142 w half ≡ record { status = 0; lag = (half_tone w half).lag }
     unfolding open_loop_pitch half_tone

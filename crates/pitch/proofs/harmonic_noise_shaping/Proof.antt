@@ -24,7 +24,7 @@ shown limit w place l s e h =
     let lag = or_clear (ltb l 18) (ltb limit l) z.1.0 in
     let inside = or_clear (ltb place (reach limit)) (ltb (length w) (place + 60)) z.1.1.0 in
     record {
-      own-limit = not-false _ z.0;
+      own_limit = not-false _ z.0;
       low = ltb-false _ _ lag.0;
       high = ltb-false _ _ lag.1;
       early = ltb-false _ _ inside.0;

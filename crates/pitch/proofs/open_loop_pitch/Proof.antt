@@ -18,7 +18,7 @@ shown : (limit : ℕ) (w : List Float) (half s : ℕ) → s ≡ first (pitch_ref
 shown limit w half s e h =
     let z = clear (pitch_refusals limit w half) tt e h in
     record {
-      own-limit = not-false _ z.0;
+      own_limit = not-false _ z.0;
       one = ltb-false _ _ z.1.0;
       long = ltb-false _ _ z.1.1.0;
       fine = not-false _ z.1.1.1.0;
