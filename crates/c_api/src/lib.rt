@@ -1,6 +1,8 @@
 // Doors for C and Rust, one for each operation: the bare forms, around which the safe forms set the floating-point mode
 // (doors/guard.c), and the doors that compute no float. `doors/make check` holds include/g7231.h to them. A door returns
 // the operation's status; a refused call leaves every lent buffer as it was.
+#![tactic(auto)]
+
 ghost use Rattle.std.specs.Prelude.{◌≡◌};
 ghost use Rattle.convert.specs.Convert.{freq_to_cosines, cosines_to_freq};
 ghost use Rattle.lpc.specs.Analysis.{lpc_analysis};
@@ -25,8 +27,7 @@ ghost use Rattle.c_api.specs.Memory.{memory};
 ghost use Rattle.spec_lsp.specs.Resting.{resting};
 
 // It has no bare form: a whole number as a single is exact in every mode.
-#[unsafe(no_mangle)]
-pub extern "C" fn g7231_resting_set(set: &mut [f32; 10]) -> u32
+pub fn g7231_resting_set(set: &mut [f32; 10]) -> u32
     ensures status { result ≡ 0 }
     ensures lines { set.new ≡ resting }
 {
@@ -35,8 +36,7 @@ pub extern "C" fn g7231_resting_set(set: &mut [f32; 10]) -> u32
     0
 }
 
-#[unsafe(no_mangle)]
-pub extern "C" fn g7231_bare_lsp_cosines_to_freq(cosines: &[f32; 10], freq: &mut [f32; 10]) -> u32
+pub fn g7231_bare_lsp_cosines_to_freq(cosines: &[f32; 10], freq: &mut [f32; 10]) -> u32
     ensures status { result ≡ (cosines_to_freq cosines.now).status }
     ensures buffer { freq.new ≡ lent result freq.old (cosines_to_freq cosines.now).lines }
 {
@@ -50,8 +50,7 @@ pub extern "C" fn g7231_bare_lsp_cosines_to_freq(cosines: &[f32; 10], freq: &mut
     status
 }
 
-#[unsafe(no_mangle)]
-pub extern "C" fn g7231_bare_lsp_freq_to_cosines(freq: &[f32; 10], cosines: &mut [f32; 10]) -> u32
+pub fn g7231_bare_lsp_freq_to_cosines(freq: &[f32; 10], cosines: &mut [f32; 10]) -> u32
     ensures status { result ≡ (freq_to_cosines freq.now).status }
     ensures buffer { cosines.new ≡ lent result cosines.old (freq_to_cosines freq.now).lines }
 {
@@ -65,8 +64,7 @@ pub extern "C" fn g7231_bare_lsp_freq_to_cosines(freq: &[f32; 10], cosines: &mut
     status
 }
 
-#[unsafe(no_mangle)]
-pub extern "C" fn g7231_bare_lpc_analysis(
+pub fn g7231_bare_lpc_analysis(
     window: &[f32],
     a: &mut [f32; 11],
     r: &mut [f64; 11],
@@ -90,8 +88,7 @@ pub extern "C" fn g7231_bare_lpc_analysis(
     status
 }
 
-#[unsafe(no_mangle)]
-pub extern "C" fn g7231_bare_enforce_lsp_stability(
+pub fn g7231_bare_enforce_lsp_stability(
     cosines: &[f32; 10],
     spacing_hz: f32,
     out: &mut [f32; 10],
@@ -112,12 +109,7 @@ pub extern "C" fn g7231_bare_enforce_lsp_stability(
     status
 }
 
-#[unsafe(no_mangle)]
-pub extern "C" fn g7231_bare_weighting_taps(
-    a: &[f32; 11],
-    wz: &mut [f32; 10],
-    wp: &mut [f32; 10],
-) -> u32
+pub fn g7231_bare_weighting_taps(a: &[f32; 11], wz: &mut [f32; 10], wp: &mut [f32; 10]) -> u32
     ensures status { result ≡ (weighting_taps a.now).status }
     ensures zeros { wz.new ≡ lent result wz.old (weighting_taps a.now).wz }
     ensures poles { wp.new ≡ lent result wp.old (weighting_taps a.now).wp }
@@ -134,8 +126,7 @@ pub extern "C" fn g7231_bare_weighting_taps(
     status
 }
 
-#[unsafe(no_mangle)]
-pub extern "C" fn g7231_bare_weight_subframe(
+pub fn g7231_bare_weight_subframe(
     x: &[f32],
     wz: &[f32; 10],
     wp: &[f32; 10],
@@ -165,13 +156,7 @@ pub extern "C" fn g7231_bare_weight_subframe(
     status
 }
 
-#[unsafe(no_mangle)]
-pub extern "C" fn g7231_bare_open_loop_pitch(
-    limit: u32,
-    wbuf: &[f32],
-    half: usize,
-    lag: &mut u32,
-) -> u32
+pub fn g7231_bare_open_loop_pitch(limit: u32, wbuf: &[f32], half: usize, lag: &mut u32) -> u32
     ensures status { result ≡ (open_loop_pitch limit wbuf.now half).status }
     ensures lag { lag.new ≡ lent result lag.old (open_loop_pitch limit wbuf.now half).lag }
 {
@@ -183,8 +168,7 @@ pub extern "C" fn g7231_bare_open_loop_pitch(
     status
 }
 
-#[unsafe(no_mangle)]
-pub extern "C" fn g7231_bare_lpc_to_lsp(a: &[f32; 11], lsp: &mut [f32; 10]) -> u32
+pub fn g7231_bare_lpc_to_lsp(a: &[f32; 11], lsp: &mut [f32; 10]) -> u32
     ensures status { result ≡ (lpc_to_lsp a.now).status }
     ensures lines { lsp.new ≡ lent result lsp.old (lpc_to_lsp a.now).lines }
 {
@@ -198,8 +182,7 @@ pub extern "C" fn g7231_bare_lpc_to_lsp(a: &[f32; 11], lsp: &mut [f32; 10]) -> u
     status
 }
 
-#[unsafe(no_mangle)]
-pub extern "C" fn g7231_bare_interpolate_lsp(
+pub fn g7231_bare_interpolate_lsp(
     choice: usize,
     prev: &[f32; 10],
     cur: &[f32; 10],
@@ -219,8 +202,7 @@ pub extern "C" fn g7231_bare_interpolate_lsp(
     status
 }
 
-#[unsafe(no_mangle)]
-pub extern "C" fn g7231_bare_lsp_to_lpc(lsp: &[f32; 10], a: &mut [f32; 11]) -> u32
+pub fn g7231_bare_lsp_to_lpc(lsp: &[f32; 10], a: &mut [f32; 11]) -> u32
     ensures status { result ≡ (lsp_to_lpc lsp.now).status }
     ensures coefficients { a.new ≡ lent result a.old (lsp_to_lpc lsp.now).a }
 {
@@ -234,8 +216,7 @@ pub extern "C" fn g7231_bare_lsp_to_lpc(lsp: &[f32; 10], a: &mut [f32; 11]) -> u
     status
 }
 
-#[unsafe(no_mangle)]
-pub extern "C" fn g7231_bare_harmonic_noise_shaping(
+pub fn g7231_bare_harmonic_noise_shaping(
     limit: u32,
     wbuf: &[f32],
     place: usize,
@@ -257,8 +238,7 @@ pub extern "C" fn g7231_bare_harmonic_noise_shaping(
     status
 }
 
-#[unsafe(no_mangle)]
-pub extern "C" fn g7231_bare_quantise_lsp_freq(
+pub fn g7231_bare_quantise_lsp_freq(
     p: &[f32; 10],
     prev: &[f32; 10],
     index: &mut u32,
@@ -280,12 +260,7 @@ pub extern "C" fn g7231_bare_quantise_lsp_freq(
     status
 }
 
-#[unsafe(no_mangle)]
-pub extern "C" fn g7231_bare_decode_lsp_freq(
-    index: u32,
-    prev: &[f32; 10],
-    set: &mut [f32; 10],
-) -> u32
+pub fn g7231_bare_decode_lsp_freq(index: u32, prev: &[f32; 10], set: &mut [f32; 10]) -> u32
     ensures status { result ≡ (decode_lsp_freq lsp_rows index prev.now).status }
     ensures lines { set.new ≡ lent result set.old (decode_lsp_freq lsp_rows index prev.now).lines }
 {
@@ -300,8 +275,7 @@ pub extern "C" fn g7231_bare_decode_lsp_freq(
 }
 
 // Neither has a bare form: bytes and words are the same in every mode.
-#[unsafe(no_mangle)]
-pub extern "C" fn g7231_split_lsp_index(index: u32, bands: &mut [u8; 3]) -> u32
+pub fn g7231_split_lsp_index(index: u32, bands: &mut [u8; 3]) -> u32
     ensures status { result ≡ (split index).status }
     ensures rows { bands.new ≡ lent result bands.old (split index).bands }
 {
@@ -314,8 +288,7 @@ pub extern "C" fn g7231_split_lsp_index(index: u32, bands: &mut [u8; 3]) -> u32
     status
 }
 
-#[unsafe(no_mangle)]
-pub extern "C" fn g7231_combine_lsp_index(bands: &[u8; 3], index: &mut u32) -> u32
+pub fn g7231_combine_lsp_index(bands: &[u8; 3], index: &mut u32) -> u32
     ensures status { result ≡ 0 }
     ensures index { index.new ≡ combine bands.now }
 {
@@ -325,8 +298,7 @@ pub extern "C" fn g7231_combine_lsp_index(bands: &[u8; 3], index: &mut u32) -> u
 }
 
 // The fields of a memory at rest. It computes no float, and has a bare form since its struct is taken in parts.
-#[unsafe(no_mangle)]
-pub extern "C" fn g7231_bare_new_filter_memory(
+pub fn g7231_bare_new_filter_memory(
     limit: u32,
     lag_limit: &mut u32,
     syn: &mut [f32; 10],
@@ -358,8 +330,7 @@ pub extern "C" fn g7231_bare_new_filter_memory(
     status
 }
 
-#[unsafe(no_mangle)]
-pub extern "C" fn g7231_bare_run_combined(
+pub fn g7231_bare_run_combined(
     lag_limit: u32,
     syn: &mut [f32; 10],
     wz_mem: &mut [f32; 10],
@@ -413,8 +384,7 @@ pub extern "C" fn g7231_bare_run_combined(
     status
 }
 
-#[unsafe(no_mangle)]
-pub extern "C" fn g7231_bare_combined_impulse_response(
+pub fn g7231_bare_combined_impulse_response(
     limit: u32,
     aq: &[f32; 11],
     wz: &[f32; 10],

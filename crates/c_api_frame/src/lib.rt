@@ -1,6 +1,8 @@
 // The doors of a frame, in a crate and an object file of their own: the frame calls the stages that other doors call, and in one
 // object with them the compiler would no longer put a stage inside its door, which costs that door time. crates/c_api says what a
 // door is.
+#![tactic(auto)]
+
 ghost use Rattle.std.specs.Prelude.{◌≡◌};
 ghost use Rattle.spec_tables.specs.Codebook.{lsp_rows};
 ghost use Rattle.c_api.specs.Lent.{lent};
@@ -11,8 +13,7 @@ ghost use Rattle.c_api_frame.specs.Frame.{coder_of, lags, factors};
 use frame::{Coder, Frame};
 use pitch::HnsParams;
 
-#[unsafe(no_mangle)]
-pub extern "C" fn g7231_bare_new_coder(
+pub fn g7231_bare_new_coder(
     set: &mut [f32; 10],
     lines: &mut [f32; 10],
     x_mem: &mut [f32; 10],
@@ -138,8 +139,7 @@ pub fn store_frame(
     refusal
 }
 
-#[unsafe(no_mangle)]
-pub extern "C" fn g7231_bare_code_frame(
+pub fn g7231_bare_code_frame(
     set: &mut [f32; 10],
     lines: &mut [f32; 10],
     x_mem: &mut [f32; 10],

@@ -1,5 +1,7 @@
 // The doors of code rows of a caller's own, in a crate and an object file of their own: over lent rows the stages are compiled once more, and no
 // other door's code moves. crates/c_api says what a door is.
+#![tactic(auto)]
+
 ghost use Rattle.std.specs.Prelude.{◌≡◌};
 ghost use Rattle.c_api.specs.Lent.{lent};
 ghost use Rattle.c_api_frame.specs.Frame.{coder_of, lags, factors};
@@ -7,22 +9,14 @@ ghost use Rattle.row_file.specs.RowFile.{load};
 ghost use Rattle.own_rows.specs.Row.{row_place};
 ghost use Rattle.own_rows.specs.Own.{quantise_in, decode_in, code_frame_in};
 
-#[unsafe(no_mangle)]
-pub extern "C" fn g7231_load_rows(file: &[u8], rows: &mut [i16]) -> u32
+pub fn g7231_load_rows(file: &[u8], rows: &mut [i16]) -> u32
     ensures status { result ≡ (load file.now rows.old).status }
     ensures rows { rows.new ≡ (load file.now rows.old).rows }
 {
     row_file::load_rows(file, rows)
 }
 
-#[unsafe(no_mangle)]
-pub extern "C" fn g7231_row(
-    rows: &[i16],
-    band: u32,
-    index: u32,
-    start: &mut usize,
-    count: &mut usize,
-) -> u32
+pub fn g7231_row(rows: &[i16], band: u32, index: u32, start: &mut usize, count: &mut usize) -> u32
     ensures status { result ≡ (row_place rows.now band index).status }
     ensures start { start.new ≡ lent result start.old (row_place rows.now band index).start }
     ensures count { count.new ≡ lent result count.old (row_place rows.now band index).count }
@@ -36,8 +30,7 @@ pub extern "C" fn g7231_row(
     status
 }
 
-#[unsafe(no_mangle)]
-pub extern "C" fn g7231_bare_quantise_lsp_freq_in(
+pub fn g7231_bare_quantise_lsp_freq_in(
     rows: &[i16],
     p: &[f32; 10],
     prev: &[f32; 10],
@@ -60,8 +53,7 @@ pub extern "C" fn g7231_bare_quantise_lsp_freq_in(
     status
 }
 
-#[unsafe(no_mangle)]
-pub extern "C" fn g7231_bare_decode_lsp_freq_in(
+pub fn g7231_bare_decode_lsp_freq_in(
     rows: &[i16],
     index: u32,
     prev: &[f32; 10],
@@ -80,8 +72,7 @@ pub extern "C" fn g7231_bare_decode_lsp_freq_in(
     status
 }
 
-#[unsafe(no_mangle)]
-pub extern "C" fn g7231_bare_code_frame_in(
+pub fn g7231_bare_code_frame_in(
     rows: &[i16],
     set: &mut [f32; 10],
     lines: &mut [f32; 10],

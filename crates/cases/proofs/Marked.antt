@@ -24,7 +24,7 @@ use Rattle.lsp_filter.specs.Polynomial.{coefficient, quadratic, side, plus_facto
 use Rattle.pitch.specs.Gate.{gate, at_most_one, passes}
 use Rattle.correlation.specs.Correlation.{windowed, lagged, correlation, lag_weight, corrected, sums}
 use Rattle.lpc.specs.Analysis.{trivial, set_of, lpc_analysis}
-use Rattle.cases.specs.Marked.{Holds, splits, decodes, quantises, dc, dc+8, dc+3, set66051, marked, All}
+use Rattle.cases.specs.Marked.{Holds, decodes, quantises, dc, dc+8, dc+3, set66051, marked, All}
 
 decodes_66051 : Holds (decodes 66051 dc set66051)
 unfolding flatten neg round add sub mul of_int lt single table all lsp_band0 lsp_band1 lsp_band2 lsp_rows row_from

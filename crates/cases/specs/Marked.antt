@@ -1,6 +1,6 @@
 -- The cases that document 01 marks for proof (M), as one table of the definitions.
 -- Added by design, each about the section of its definition; document 01, E1 to E10 and F5; document 02, E4.4, of the second. Assumes nothing.
-use Rattle.std.specs.Prelude.{◌≡◌, Bool, true, false, List, [], ◌∷◌, map, ℕ, ◌+◌, ◌^◌, replicate, Float}
+use Rattle.std.specs.Prelude.{◌≡◌, Bool, true, false, List, [], ◌∷◌, map, ℕ, ◌^◌, replicate, Float}
 use Rattle.std.specs.Float.Ieee.{neg}
 use Rattle.float.specs.Single.{single}
 use Rattle.float.specs.Double.{double}

@@ -1,4 +1,6 @@
 // The combined filter (§2.12): synthesis, formant weighting and harmonic noise shaping of one subframe.
+#![tactic(auto)]
+
 ghost use Rattle.std.specs.Prelude.{◌≡◌, true, not, ◌∷◌, [], ◌+◌, ◌<◌, ◌≤◌, set};
 ghost use Rattle.float.specs.Finite.{not_finite};
 ghost use Rattle.float.specs.Loop.{over};
@@ -18,7 +20,7 @@ const PLACES: usize = 145;
 
 // The filter's memory: three memories, most recent first; the history of harmonic inputs, oldest first, whose first limit + 3 places are in
 // use; and the limit of its caller's lags, which no call alters.
-#[derive(Drop)]
+#[derive(Clone, Copy)]
 pub struct CombinedMem {
     pub syn: [f32; 10],
     pub wz: [f32; 10],

@@ -1,2 +1,2 @@
--- What the walks by hand pass.
-pub mod Passed
+-- What the contracts of a lent memory rest on.
+pub mod Kept

@@ -1,4 +1,6 @@
 // The combined filter over a memory that the caller lends.
+#![tactic(auto)]
+
 ghost use Rattle.std.specs.Prelude.{◌≡◌};
 ghost use Rattle.combined.specs.Cascade.{settings};
 ghost use Rattle.combined.specs.Run.{run_combined, answered};
@@ -6,6 +8,7 @@ ghost use Rattle.combined.specs.Run.{run_combined, answered};
 use combined::{Combined, CombinedMem, CombinedOut};
 
 // One subframe through the filter, whose memory is lent. It is altered only where nothing is refused.
+#[tactic(auto, using(crate::proofs::Kept::kept))]
 pub fn run_combined_lent(
     mem: &mut CombinedMem,
     input: [f32; 60],

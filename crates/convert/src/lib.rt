@@ -1,4 +1,6 @@
 // The lines of a frame from cosines to frequencies and back, by the cosine rule. Frequencies are in the tables' units, of which 32,768 make half a circle.
+#![tactic(auto)]
+
 ghost use Rattle.std.specs.Prelude.{◌≡◌, map, true, false};
 ghost use Rattle.std.specs.Float.Ieee.Scale.{finite};
 ghost use Rattle.float.specs.Refusal.{all};

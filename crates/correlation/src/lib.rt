@@ -1,4 +1,6 @@
 // The sums of one window of 180 samples (§2.4): the window, its autocorrelation and the lag window.
+#![tactic(auto)]
+
 ghost use Rattle.std.specs.Prelude.{◌≡◌, ◌≤◌, length};
 ghost use Rattle.std.specs.Float.{binary64};
 ghost use Rattle.float.specs.Table.{table};

@@ -1,6 +1,6 @@
 -- The blend of two entries in natural numbers: `low` up to the quarter circle, its negative mirrored above. It falls strictly. Assumes
 -- nothing.
-use Rattle.std.proofs.Common.{◌≡◌, ℕ, zero, suc, ◌+◌, ◌-◌, ◌*◌, ◌/◌, ◌%◌, ◌^◌, ◌<◌, ◌≤◌, ℤ, pos, negsuc, ◌+ℤ◌, ◌*ℤ◌, neg_ℤ, sym, refl, ap, ◌∙◌, inl, inr, zero-le, le_trans, le_of_eq, add-zero, mul_comm, add_comm, eq-or-lt_of_le, mul-zero, mul-one, mul-suc, arith}
+use Rattle.std.proofs.Common.{◌≡◌, ℕ, zero, suc, ◌+◌, ◌-◌, ◌*◌, ◌/◌, ◌%◌, ◌^◌, ◌<◌, ◌≤◌, ℤ, pos, ◌+ℤ◌, ◌*ℤ◌, neg_ℤ, sym, refl, ap, ◌∙◌, inl, inr, zero-le, le_trans, le_of_eq, add-zero, mul_comm, add_comm, eq-or-lt_of_le, mul-zero, mul-suc, arith}
 use lib.IntN.{*ℤ-zero, +ℤ_idr, pos-+ℤ-pos, pos-*ℤ-pos, negsuc-*ℤ-pos, neg_ℤ-+ℤ, zero-*ℤ}
 use Rattle.quarter.specs.Quarter.{quarter, entry}
 use Rattle.quarter.proofs.Entry.{entry_low, mirror}

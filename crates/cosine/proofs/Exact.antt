@@ -1,13 +1,13 @@
 -- The unnarrowed cosine is exact: a whole number of at most 2^42 over 2^42. And what the code computes, a quotient of doubles, is that
 -- value. Assumes nothing.
-use Rattle.std.proofs.Common.{◌≡◌, ℕ, zero, suc, ◌+◌, ◌-◌, ◌*◌, ◌%◌, ◌^◌, ◌<◌, ◌≤◌, Bool, true, false, cond, T, leb, ℤ, pos, negsuc, neg_ℤ, sym, refl, ap, ◌∙◌, subst, le_trans, lt_of_le_of_lt, mul-le-mul_right, zero-lt-suc, mul_assoc, mul-lt-mul_of_pos_right, mul-one, arith, lit<, lit≤, leb→le, pow_pos, pow-add}
+use Rattle.std.proofs.Common.{◌≡◌, ℕ, zero, suc, ◌-◌, ◌*◌, ◌%◌, ◌^◌, ◌<◌, ◌≤◌, Bool, true, false, cond, T, leb, pos, neg_ℤ, sym, refl, ap, ◌∙◌, subst, le_trans, lt_of_le_of_lt, mul-le-mul_right, mul_assoc, mul-one, arith, lit<, lit≤, leb→le, pow_pos, pow-add}
 use lib.Dec.{nleb→lt}
 use lib.Ieee.{Float, binary64, round, neg, div, of_int, of_bits}
 use lib.Ieee.Back.{round_whole}
 use lib.Ieee.Exact.{HasValue, round_exact}
 use Rattle.float.proofs.Rounded.{round_neg}
 use Rattle.float.proofs.Product.{div_value}
-use Rattle.cosine.specs.Cosine.{folded, blend, scaled, cosine}
+use Rattle.cosine.specs.Cosine.{folded, scaled, cosine}
 use Rattle.cosine.specs.inner.Low.{low}
 use Rattle.cosine.proofs.Blend.{blend_low, blend_high, low_le, low_pos}
 

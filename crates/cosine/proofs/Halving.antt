@@ -1,6 +1,6 @@
 -- The invariant of a loop that halves: lo and the next half of a range of 2^d, in which the search ends as from the whole one. Assumes
 -- nothing.
-use Rattle.std.proofs.Common.{◌≡◌, ℕ, zero, suc, ◌+◌, ◌*◌, ◌/◌, ◌^◌, ◌<◌, ◌≤◌, Bool, true, false, cond, sym, refl, ap, ◌∙◌, subst, le_refl, arith, pow_pos}
+use Rattle.std.proofs.Common.{◌≡◌, ℕ, zero, suc, ◌+◌, ◌/◌, ◌^◌, ◌<◌, ◌≤◌, Bool, true, false, cond, sym, refl, ap, ◌∙◌, subst, arith, pow_pos}
 use native.Mathlib.Nat.{two-pow-succ}
 use Rattle.cosine.specs.Step.{above}
 

@@ -1,12 +1,12 @@
 -- The cosine falls from step 0 to step 2^24: of two steps the later one's cosine is no greater. Assumes nothing.
-use Rattle.std.proofs.Common.{◌≡◌, ℕ, ◌+◌, ◌-◌, ◌*◌, ◌%◌, ◌^◌, ◌<◌, ◌≤◌, Bool, true, false, cond, not, T, leb, sym, refl, ap, ◌∙◌, subst, le_trans, le_of_eq, mul-le-mul_right, mod-eq_of_lt, arith, lit<, leb→le, pow_pos}
+use Rattle.std.proofs.Common.{◌≡◌, ℕ, ◌-◌, ◌*◌, ◌%◌, ◌^◌, ◌<◌, ◌≤◌, Bool, true, false, not, T, leb, sym, subst, le_trans, le_of_eq, mul-le-mul_right, arith, lit<, leb→le, pow_pos}
 use lib.Dec.{nleb→lt}
-use lib.Ieee.{Float, le}
+use lib.Ieee.{le}
 use lib.Ieee.Exact.{HasValue}
 use Rattle.float.proofs.Order.{Under, le_values}
 use Rattle.cosine.specs.Cosine.{folded, cosine}
 use Rattle.cosine.specs.inner.Low.{low}
-use Rattle.cosine.proofs.Blend.{low_monotone, low_first, low_last}
+use Rattle.cosine.proofs.Blend.{low_monotone, low_first}
 use Rattle.cosine.proofs.Exact.{value_low, value_high}
 
 pub folded_same : (k : ℕ) → k ≤ 2 ^ 24 → folded k ≡ k

@@ -1,5 +1,7 @@
 // The cosine rule of document 01: whole numbers in the place of a C library's cosine and arc cosine.
 // A caller binds the table once, `let t = quarter::entries();`, and lends it.
+#![tactic(auto)]
+
 ghost use Rattle.std.specs.Prelude.{◌≡◌, ◌+◌, ◌^◌, ◌≤◌, true, false, pos};
 ghost use Rattle.std.specs.Float.{fin};
 ghost use Rattle.std.specs.Float.Ieee.{lt};

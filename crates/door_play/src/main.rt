@@ -1,5 +1,7 @@
 // Every door beside its operation: called once so that it is done and once so that it is refused. Done, each lent buffer holds
 // the operation's answer, and each differs from the others, so that two that were swapped would show; refused, each is as it was.
+#![tactic(auto)]
+
 mod buffers;
 mod frames;
 mod lines;
@@ -7,7 +9,8 @@ mod rows;
 mod samples;
 mod whole;
 
-use libc::STDOUT_FILENO;
+// Standard output, by its number.
+const STDOUT_FILENO: i32 = 1;
 
 #[derive(Drop)]
 struct Tally {

@@ -7,7 +7,7 @@ use Rattle.float.specs.Single.{◌⊗◌, single}
 use Rattle.float.specs.Vector.{at}
 use Rattle.float.specs.Difference.{difference}
 use Rattle.line.specs.declared.Ends.{Ends}
-use Rattle.line_grid.specs.Multiple.{grid, Multiple}
+use Rattle.line_grid.specs.Multiple.{grid}
 use Rattle.line_grid.specs.Sixtyfourths.{up64}
 use Rattle.line_grid.specs.inner.Placed.{placed}
 use Rattle.line_grid.proofs.Sixtyfourths.{difference_steps, rounded_up}

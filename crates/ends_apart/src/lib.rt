@@ -1,4 +1,6 @@
 // How far both ends of a line lie apart (request E7), counted exactly: every frequency that the line holds is a whole multiple of 2^-13.
+#![tactic(auto)]
+
 ghost use Rattle.std.specs.Prelude.{◌≡◌, ◌<◌, max};
 ghost use Rattle.line_grid.specs.inner.Placed.{placed};
 ghost use Rattle.ends_apart.specs.Apart.{apart64};

@@ -1,16 +1,15 @@
 -- Values that a format holds exactly: n / 2^t with few enough digits, and a single times a power of two in the range of the format. Assumes nothing.
-use mathlib.Core.Path.{◌≡◌, refl, sym, ap, ◌∙◌, subst}
-use mathlib.Core.Bool.{Bool, true, false, ◌&&◌}
-use Prim.Native.Nat.{ℕ, zero, suc, ◌+◌, ◌-◌, ◌*◌, ◌%◌, ◌^◌, ◌≤◌, ◌<◌}
-use native.Mathlib.Nat.{mul_assoc, mul_comm, mul_right_comm, lt_of_lt_of_le, lt_of_mul-lt-mul_right, mul-lt-mul_of_pos_right, add_comm}
+use mathlib.Core.Path.{◌≡◌, sym, ap, ◌∙◌, subst}
+use mathlib.Core.Bool.{Bool}
+use Prim.Native.Nat.{ℕ, suc, ◌+◌, ◌-◌, ◌*◌, ◌^◌, ◌≤◌, ◌<◌}
+use native.Mathlib.Nat.{mul_assoc, mul_comm, mul_right_comm, lt_of_lt_of_le, lt_of_mul-lt-mul_right, mul-lt-mul_of_pos_right}
 use native.Mathlib.Omega.{arith}
-use lib.Dec.{T, eqb, ltb, leb, ltb→lt, leb→le, eqb→eq}
 use lib.Pow.{pow-add, pow_pos, pow_mono, shl_lt}
 use lib.IntN.{ℤ}
-use lib.Ieee.{Float, fin, Format, prec, emax, low, up, down, round, fits}
+use lib.Ieee.{Format, prec, emax, low, up, down, round}
 use lib.Ieee.Digits.{back}
 use lib.Ieee.Exact.{HasValue, round_exact}
-use lib.Ieee.Fits.{reach, up_pos, down_pos, and_l, and_r}
+use lib.Ieee.Fits.{reach, down_pos}
 use Rattle.float.proofs.Rounded.{place}
 
 -- n / 2^t, with n of no more digits than the format keeps

@@ -1,7 +1,7 @@
 -- Patterns of NaNs, in either format: what they stand for, and which values are the same as a pattern. Assumes nothing.
 use mathlib.Core.Path.{◌≡◌, refl, sym, ap, ◌∙◌, subst}
 use Prim.Native.Nat.{ℕ}
-use mathlib.Core.Bool.{Bool, true, false, not, cond}
+use mathlib.Core.Bool.{true, false}
 use lib.Dec.{T, eqb}
 use lib.Ieee.{Float, nan, inf, fin, Format, is_nan, nan_bits, ne, of_bits, to_bits}
 use lib.Ieee.Bits.{nan_bits_is}

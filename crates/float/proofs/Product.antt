@@ -1,12 +1,12 @@
 -- Products and quotients of floats by the fractions that they equal: x = ±a / c and y = ±b / d give one rounding of ±ab / cd and of ±ad / bc, whatever the format.
 -- Assumes nothing.
-use mathlib.Core.Path.{◌≡◌, refl, sym, ap, ◌∙◌, subst}
+use mathlib.Core.Path.{◌≡◌, sym, ap, ◌∙◌}
 use mathlib.Core.Bool.{Bool, true, false, not, cond}
-use Prim.Native.Nat.{ℕ, zero, suc, ◌+◌, ◌*◌, ◌<◌}
-use native.Mathlib.Nat.{mul_assoc, mul_comm, mul_left_comm, mul_right_comm, mul-pos, zero-mul}
+use Prim.Native.Nat.{ℕ, zero, suc, ◌*◌, ◌<◌}
+use native.Mathlib.Nat.{mul_assoc, mul_comm, mul_left_comm, mul-pos, zero-mul}
 use native.Mathlib.Omega.{arith}
-use lib.Dec.{T, eqb, eqb→eq, ltb}
-use lib.Ieee.{Float, nan, inf, fin, Format, prec, emax, low, up, down, unlike, odd, units, round, neg, mul, div}
+use lib.Dec.{T, eqb, eqb→eq}
+use lib.Ieee.{Float, nan, inf, fin, Format, up, down, unlike, round, mul, div}
 use lib.Ieee.Fits.{up_pos, down_pos}
 use lib.Ieee.Bits.{cond_no}
 use lib.Ieee.Exact.{HasValue}

@@ -1,4 +1,6 @@
 // Tests of singles that the refusals stand on, and the one rounding that Rattle's casts leave out.
+#![tactic(auto)]
+
 mod bits;
 
 ghost use Rattle.std.specs.Prelude.{◌≡◌, [], ◌∷◌, ◌^◌, ◌≤◌, ◌<◌};

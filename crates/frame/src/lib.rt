@@ -1,5 +1,7 @@
 // One call a frame (request E2): the stages of document 01 in a chain. Every stage runs, on the zeros of a refused one, and the first
 // status that is not 0 refuses the frame.
+#![tactic(auto)]
+
 ghost use Rattle.std.specs.Prelude.{◌≡◌, eqb, length};
 ghost use Rattle.spec_tables.specs.Codebook.{lsp_rows};
 ghost use Rattle.frame.specs.Coder.{new_coder};
@@ -15,7 +17,7 @@ use spectrum::Spectrum;
 use voice::Voice;
 
 // What a coder keeps between frames.
-#[derive(Drop)]
+#[derive(Clone, Copy)]
 pub struct Coder {
     // the line frequencies that the decoder has
     pub set: [f32; 10],
@@ -29,7 +31,7 @@ pub struct Coder {
 }
 
 // One frame coded: what is sent of it, its four filters one after the other, and the memories after it.
-#[derive(Drop)]
+#[derive(Clone, Copy)]
 pub struct Frame {
     pub status: u32,
     pub index: u32,

@@ -15,7 +15,7 @@ use Rattle.spec_lsp.specs.Quantise.{refused_index, quantise_lsp_freq}
 use Rattle.spec_lsp.specs.declared.quantise.Quantised.{Quantised}
 use Rattle.frame_parts.specs.Parts.{singles}
 use Rattle.spectrum.specs.Lines.{given, lines}
-use Rattle.spectrum.specs.Filters.{filters, joined}
+use Rattle.spectrum.specs.Filters.{joined}
 use Rattle.frame.specs.declared.Coder.{Coder}
 use Rattle.frame.specs.declared.Frame.{Frame}
 use Rattle.frame.specs.Windows.{windows}

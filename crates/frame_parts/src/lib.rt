@@ -1,11 +1,13 @@
 // What the stages of a frame share: the filters of four subframes, the first of their statuses, and copies from one list to another.
+#![tactic(auto)]
+
 ghost use Rattle.std.specs.Prelude.{◌≡◌, [], ◌∷◌, ◌+◌, ◌≤◌, length};
 ghost use Rattle.float.specs.Refusal.{first_of, answer};
 ghost use Rattle.frame_parts.specs.Parts.{singles};
 ghost use Rattle.frame_parts.specs.inner.Put.{Put};
 
 // The filters of four subframes.
-#[derive(Drop)]
+#[derive(Clone, Copy)]
 pub struct Filters {
     pub status: u32,
     pub a0: [f32; 11],

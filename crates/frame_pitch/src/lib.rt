@@ -1,5 +1,7 @@
 // Pitch and noise shaping of a frame (request E2), over the weighted speech: 145 samples of the past, then the frame's 240. Each half is widened and
 // squared once, for its lag and for both of its subframes.
+#![tactic(auto)]
+
 ghost use Rattle.std.specs.Prelude.{◌≡◌, length};
 ghost use Rattle.pitch.specs.inner.Readable.{Half};
 ghost use Rattle.frame_pitch.specs.inner.Tone.{refused_tone, half_tone, tone};

@@ -1,6 +1,8 @@
 // The history of harmonic inputs around a subframe (request E6). The places in use stand first in it. While a subframe is worked they stand
 // last of 145, so that whatever the limit the newest has one place; those not in use are left out. What the loggers need is what stood here
 // without the gateway, and nothing is added to it but a test.
+#![tactic(auto)]
+
 ghost use Rattle.std.specs.Prelude.{◌≡◌, true, ◌++◌, ◌+◌, ◌-◌, ◌≤◌, length, take, drop};
 ghost use Rattle.std.specs.Float.Ieee.Scale.{finite};
 ghost use Rattle.float.specs.Refusal.{all};

@@ -1,4 +1,6 @@
 // The combined filter's impulse response (§2.12), which the excitation search takes its pulses through.
+#![tactic(auto)]
+
 ghost use Rattle.std.specs.Prelude.{◌≡◌};
 ghost use Rattle.combined.specs.Cascade.{settings};
 ghost use Rattle.impulse.specs.Impulse.{impulse_response};

@@ -1,4 +1,6 @@
 // The limit of a caller's lags (request E6): one of two numbers, which pitch, shaping and the combined filter share.
+#![tactic(auto)]
+
 ghost use Rattle.std.specs.Prelude.{◌≡◌};
 ghost use Rattle.lag_limit.specs.Limit.{known};
 

@@ -1,6 +1,6 @@
 -- The search by the rule of shaping takes the first greatest ratio, for any sums, infinities and NaN among them: no lag that counts has
 -- a greater ratio than the winner, and none before the winner one as great. Document 01, B52. Assumes nothing.
-use mathlib.Core.Path.{◌≡◌, refl, sym, ◌∙◌, subst}
+use mathlib.Core.Path.{◌≡◌, refl, sym, subst}
 use mathlib.Core.Bool.{Bool, true, false, not, ◌||◌, cond}
 use mathlib.Core.List.{List}
 use Prim.Native.Nat.{ℕ, zero, suc, ◌+◌, ◌-◌, ◌<◌}

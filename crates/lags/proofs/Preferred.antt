@@ -3,11 +3,10 @@
 -- winner's ratio r, then 1.3335.. × r, and r is not negative. So a later lag that exceeds what it has to exceed exceeds the losers too.
 -- A NaN ratio can only be the first one's, and nothing exceeds it. This rules out a search that takes the last lag that counts, or that
 -- compares with the lag before in place of the winner. Document 01, B50. Assumes nothing.
-use mathlib.Core.Path.{◌≡◌, refl, sym, ◌∙◌, subst}
+use mathlib.Core.Path.{◌≡◌, refl, sym, subst}
 use mathlib.Core.Bool.{Bool, true, false, not, ◌||◌, cond}
 use mathlib.Core.List.{List}
 use Prim.Native.Nat.{ℕ, zero, suc, ◌+◌, ◌-◌, ◌≤◌, ◌<◌}
-use native.Mathlib.Nat.{not-suc-le-zero}
 use native.Mathlib.Omega.{arith}
 use borrow.Author.Tests.{ltb-true, ltb-false}
 use lib.Dec.{T, ltb, lit<, lit≤}

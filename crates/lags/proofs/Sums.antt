@@ -8,7 +8,7 @@ use lib.IntN.{pos}
 use lib.Ieee.{Float, nan, fin, Format, binary64, add, mul}
 use lib.ListN.{get_or}
 use Rattle.float.specs.Loop.{times, sum}
-use Rattle.float.proofs.Loop.{Went, went_more}
+use Rattle.float.proofs.Loop.{went_more}
 use Rattle.lags.specs.Lags.{cross}
 use Rattle.lags.specs.inner.Delayed.{delayed}
 

@@ -1,6 +1,6 @@
 -- Eight lags at a time: the sums that `eight_lags` gives are each lag's own, so a block of lags competes as in the definition, and the blocks make up the search.
 -- Assumes nothing.
-use mathlib.Core.Path.{◌≡◌, refl, sym, ap, ◌∙◌, subst}
+use mathlib.Core.Path.{◌≡◌, ap, ◌∙◌, subst}
 use mathlib.Core.List.{List}
 use Prim.Native.Nat.{ℕ, suc, ◌+◌, ◌-◌, ◌≤◌, ◌<◌, min}
 use native.Mathlib.Omega.{arith}
@@ -10,7 +10,7 @@ use mathlib.Core.Bool.{false}
 use lib.Ieee.{fin}
 use lib.ListN.{get_or}
 use Rattle.float.specs.Table.{table}
-use Rattle.float.specs.Loop.{times, over}
+use Rattle.float.specs.Loop.{over}
 use Rattle.float.specs.Double.{◌⊠◌}
 use Rattle.float.proofs.Table.{at_table}
 use Rattle.float.proofs.Loop.{Went, same_times}

@@ -1,6 +1,6 @@
 -- The search reads only the samples from place o − m to o + count − 1, m being at least the highest lag: over a copy of that part it answers the same.
 -- Assumes nothing.
-use mathlib.Core.Path.{◌≡◌, refl, sym, ap, ◌∙◌, subst}
+use mathlib.Core.Path.{◌≡◌, sym, ap, ◌∙◌}
 use mathlib.Core.Bool.{false}
 use mathlib.Core.List.{List, ◌++◌}
 use Prim.Native.Nat.{ℕ, suc, ◌+◌, ◌-◌, ◌≤◌, ◌<◌}
@@ -9,10 +9,8 @@ use lib.IntN.{pos}
 use lib.Ieee.{Float, nan, fin, binary64, add}
 use lib.ListN.{length, get_or, take, drop, length-drop}
 use lib.Seq.{get_or-take, get_or-drop, length-take-le, take-append_seam}
-use Rattle.float.specs.Loop.{times, over}
 use Rattle.float.specs.Double.{◌⊠◌}
 use Rattle.float.proofs.Loop.{same_times}
-use Rattle.lags.specs.declared.Best.{Best}
 use Rattle.lags.specs.Lags.{cross, power}
 use Rattle.lags.specs.Search.{Rule, offered, nothing, winner}
 

@@ -7,10 +7,9 @@ use mathlib.Core.List.{List}
 use Prim.Native.Nat.{ℕ, suc, ◌+◌, ◌-◌, ◌≤◌, ◌<◌}
 use native.Mathlib.Omega.{arith}
 use borrow.Author.Tests.{lt-ltb}
-use lib.Dec.{T, ltb}
-use lib.Ieee.{Float, lt}
+use lib.Dec.{T}
+use lib.Ieee.{Float}
 use Rattle.float.specs.Loop.{over}
-use Rattle.float.specs.Double.{◌⊠◌, double}
 use Rattle.float.proofs.Loop.{keeps}
 use Rattle.float.proofs.Blocks.{same_reached}
 use Rattle.lags.specs.declared.Best.{Best}

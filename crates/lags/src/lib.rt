@@ -1,5 +1,7 @@
 // The sums of the weighted speech at each lag, and the search over lags that open-loop pitch and harmonic noise shaping share.
 // Each sum keeps the Rust's order; eight lags' sums run side by side. A caller widens its samples once: history, then the samples.
+#![tactic(auto)]
+
 ghost use Rattle.std.specs.Prelude.{◌≡◌, ◌++◌, suc, ◌+◌, ◌-◌, ◌≤◌, min, T, length, get_or, drop};
 ghost use Rattle.std.specs.Float.{nan};
 ghost use Rattle.std.specs.Float.Ieee.Scale.{finite};
@@ -21,7 +23,7 @@ pub struct Best {
 }
 
 // Both sums of four lags, the highest lag first.
-#[derive(Drop)]
+#[derive(Clone, Copy)]
 struct FourLags {
     a0: f64,
     a1: f64,
@@ -34,7 +36,7 @@ struct FourLags {
 }
 
 // The sums of eight lags, the highest lag first, as the samples that they read stand in memory.
-#[derive(Drop)]
+#[derive(Clone, Copy)]
 pub struct EightLags {
     pub cross: [f64; 8],
     pub power: [f64; 8],

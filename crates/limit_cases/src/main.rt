@@ -1,8 +1,11 @@
 // The worked cases of request E6, a gateway with lags up to 82 beside loggers with 142: one line each, and how many passed.
+#![tactic(auto)]
+
 mod filters;
 mod speech;
 
-use libc::STDOUT_FILENO;
+// Standard output, by its number.
+const STDOUT_FILENO: i32 = 1;
 
 #[derive(Drop)]
 struct Tally {

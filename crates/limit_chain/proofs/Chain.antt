@@ -1,6 +1,6 @@
 -- With one limit the filter takes every lag that shaping answers: it never refuses one with 4, and neither does the impulse response. For shaping
 -- answers lags from 18 up to three above the limit, and so far back a memory of that limit reaches. Document 02, E6.5 and E6.9. Assumes nothing.
-use mathlib.Core.Path.{◌≡◌, refl}
+use mathlib.Core.Path.{◌≡◌}
 use mathlib.Core.List.{List}
 use Prim.Native.Nat.{ℕ, ◌≤◌}
 use lib.Ieee.{Float}
@@ -28,4 +28,4 @@ module _ (limit : ℕ) (w : List Float) (place l : ℕ) (done : (harmonic_noise_
 
   pub response_takes_shaping : (impulse_response limit q).status ≡ 4 → ⊥
   unfolding impulse_response
-  response_takes_shaping = filter_takes_shaping impulse (at_rest limit) refl
+  response_takes_shaping = in_reach_taken q impulse (at_rest limit) low high

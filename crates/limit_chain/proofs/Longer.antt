@@ -137,7 +137,7 @@ module _ (long short : ℕ) (w : List Float) (half : ℕ) (own : known short ≡
 -- ---- shaping with less history
 
 module _ (long short : ℕ) (w : List Float) (place l : ℕ) (own : known short ≡ true) (shorter : short ≤ long)
-    (done : (harmonic_noise_shaping long w place l).status ≡ 0) (inside : l ≤ short) where
+    (done : (harmonic_noise_shaping long w place l).status ≡ 0) (within : l ≤ short) where
   abbrev gone : ℕ
   gone = long - short
 
@@ -178,7 +178,7 @@ module _ (long short : ℕ) (w : List Float) (place l : ℕ) (own : known short 
   taken-less =
       let apart : reach short ≤ place - gone = omega (arith, early) in
       let fine = part_finite (drop (place - reach long) w) gone (reach short + 60) (reach long + 60) (omega arith) read_fine in
-      rw (own, le-ltb _ _ low, le-ltb _ _ inside, le-ltb _ _ apart, le-ltb _ _ late-less, read-less, fine)
+      rw (own, le-ltb _ _ low, le-ltb _ _ within, le-ltb _ _ apart, le-ltb _ _ late-less, read-less, fine)
 
   -- and three lags on either side lie within both limits
   same_settings : settings short (drop gone w) (place - gone) l ≡ settings long w place l
@@ -192,7 +192,13 @@ module _ (long short : ℕ) (w : List Float) (place l : ℕ) (own : known short 
       settings_copy (drop gone w) w gone n short (place - gone) l copy late-less reached (omega arith) (omega (arith, low))
       ∙ rw (back, high)
 
+  -- so the answer is the same, up to the shorter limit
+  same_shaping : harmonic_noise_shaping short (drop gone w) (place - gone) l ≡ harmonic_noise_shaping long w place l
+  unfolding harmonic_noise_shaping
+  same_shaping = rw (taken-less, same_settings) (sym taken.1)
+
+module _ (long short : ℕ) (w : List Float) (place l : ℕ) (own : known short ≡ true) (shorter : short ≤ long)
+    (done : (harmonic_noise_shaping long w place l).status ≡ 0) (inside : l ≤ short) where
   pub shaping_longer_history : harmonic_noise_shaping short (drop (long - short) w) (place - (long - short)) l
       ≡ harmonic_noise_shaping long w place l
-  unfolding harmonic_noise_shaping
-  shaping_longer_history = rw (taken-less, same_settings) (sym taken.1)
+  shaping_longer_history = same_shaping long short w place l own shorter done inside

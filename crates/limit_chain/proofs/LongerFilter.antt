@@ -106,7 +106,7 @@ module _ (q : Settings) (input : List Float) (mem : CombinedMem) (finished : (ru
 
 module _ (q : Settings) (input : List Float) (mem less : CombinedMem) (end : Shortened mem less)
     (full : length mem.p_hist ≡ places) (own : known less.limit ≡ true) (shorter : less.limit ≤ mem.limit)
-    (finished : (run_combined q input mem).status ≡ 0) (inside : q.lag ≤ reach less.limit) where
+    (finished : (run_combined q input mem).status ≡ 0) (within : q.lag ≤ reach less.limit) where
   abbrev c : Cascade
   c = cascaded q input mem 60
 
@@ -138,7 +138,7 @@ module _ (q : Settings) (input : List Float) (mem less : CombinedMem) (end : Sho
       let last-fine = end_finite (history mem) gone in
       let kept : any not_finite (mem.syn ∷ mem.wz ∷ mem.wp ∷ drop gone (history mem) ∷ []) ≡ false =
       fourth (not_finite mem.syn) (not_finite mem.wz) (not_finite mem.wp) (not_finite (history mem)) _ last-fine fine.0 in
-      rw (own, le-ltb _ _ (low q input mem finished), le-ltb _ _ inside, end.syn, end.wz, end.wp, end_of, kept, fine.1)
+      rw (own, le-ltb _ _ (low q input mem finished), le-ltb _ _ within, end.syn, end.wz, end.wp, end_of, kept, fine.1)
 
   beside : (n : ℕ) → Beside gone q.lag (cascaded q input mem n) (cascaded q input less n)
   unfolding times
@@ -148,7 +148,7 @@ module _ (q : Settings) (input : List Float) (mem less : CombinedMem) (end : Sho
     wp = end.wp;
     harmonic = end_of;
     out = refl;
-    room = omega (arith, long_history, inside);
+    room = omega (arith, long_history, within);
   }
   beside (suc n) =
       rw (← add-one n, cascaded_more q input mem long_history n, cascaded_more q input less short_history n)
@@ -177,12 +177,20 @@ module _ (q : Settings) (input : List Float) (mem less : CombinedMem) (end : Sho
       ∙ rw (history_after q input mem long_history (omega (arith, least)), kept_less, same_inputs, e)
       (sym (drop-append-le gone old new (omega (arith, least))))
 
-  pub filter_longer_history : let r = run_combined q input mem in let s = run_combined q input less in
+  -- so nothing is refused, and the answers are the same
+  same_answer : let r = run_combined q input mem in let s = run_combined q input less in
       (s.status ≡ 0) × (s.out ≡ r.out) × Shortened r.mem s.mem
   unfolding run_combined
-  filter_longer_history =
+  same_answer =
       rw ((taken q input mem finished).1, taken-less)
       (refl, (beside 60).out, record { syn = (beside 60).syn; wz = (beside 60).wz; wp = (beside 60).wp; history = end_after })
+
+module _ (q : Settings) (input : List Float) (mem less : CombinedMem) (end : Shortened mem less)
+    (full : length mem.p_hist ≡ places) (own : known less.limit ≡ true) (shorter : less.limit ≤ mem.limit)
+    (finished : (run_combined q input mem).status ≡ 0) (inside : q.lag ≤ reach less.limit) where
+  pub filter_longer_history : let r = run_combined q input mem in let s = run_combined q input less in
+      (s.status ≡ 0) × (s.out ≡ r.out) × Shortened r.mem s.mem
+  filter_longer_history = same_answer q input mem less end full own shorter finished inside
 
 -- ---- from rest
 
@@ -222,5 +230,5 @@ unfolding impulse_response
 response_longer_history long short q own shorter finished inside =
     let end = rest_shortened long short shorter (most q impulse (at_rest long) finished) in
     let full : length (zeros places) ≡ places = length-replicate places (fin false 0 (pos 0)) in
-    let same = filter_longer_history q impulse (at_rest long) (at_rest short) end full own shorter finished inside in
+    let same = same_answer q impulse (at_rest long) (at_rest short) end full own shorter finished inside in
     rw (same.0, finished, same.1)

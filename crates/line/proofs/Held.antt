@@ -30,7 +30,7 @@ use Rattle.spec_tables.proofs.Bounds.{list_at, row_passes, join_passes, pass_ins
 use Rattle.row_search.specs.Error.{number}
 use Rattle.spec_lsp.specs.Decode.{rebuilt, row_numbers, decoded}
 use Rattle.spec_lsp.specs.Resting.{resting}
-use Rattle.line.specs.Claim.{Near, Ten}
+use Rattle.line.specs.Claim.{Passing, Near, Ten}
 use Rattle.line.proofs.Drift.{apart_most, between, below_limit}
 use Rattle.line.proofs.Each.{all_each, is_true}
 use Rattle.line.proofs.Rebuild as rebuild
@@ -81,7 +81,7 @@ rests i =
     }
 
 -- every number of the rows that an index names is small
-module _ (rows : List ℤ) (R : T (rows_pass rows)) where
+module _ (rows : List ℤ) (R : Passing rows) where
   pub numbers_pass : (index : ℕ) → T (rows_pass (row_numbers rows index))
   unfolding row_numbers
   numbers_pass index =
@@ -129,7 +129,7 @@ pub length_decoded : (rows : List ℤ) (index : ℕ) (prev : List Float) → len
 unfolding decoded
 length_decoded rows index prev = length_table 10 (λ k. rebuilt (at prev k) (number dc_freq k) (number (row_numbers rows index) k))
 
-pub held_decoded : (rows : List ℤ) → T (rows_pass rows) → (index : ℕ) (prev : List Float) → Held prev →
+pub held_decoded : (rows : List ℤ) → Passing rows → (index : ℕ) (prev : List Float) → Held prev →
     Held (decoded rows index prev)
 held_decoded rows R index prev p = record {
   long = length_decoded rows index prev;
@@ -138,7 +138,7 @@ held_decoded rows R index prev p = record {
       (step_inside (at prev i) (number dc_freq i) (number (row_numbers rows index) i) (p.each i h) (rests i) (rows_small rows R index i));
 }
 
-pub decoded_shrinks : (rows : List ℤ) → T (rows_pass rows) → (index : ℕ) (x y : List Float) → Held x → Held y →
+pub decoded_shrinks : (rows : List ℤ) → Passing rows → (index : ℕ) (x y : List Float) → Held x → Held y →
     (i : ℕ) → i < 10 →
     8 * difference (at (decoded rows index x) i) (at (decoded rows index y) i) + 3 * (32 * u)
     ≤ 3 * difference (at x i) (at y i) + 8 * (32 * u)

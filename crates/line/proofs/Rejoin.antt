@@ -10,24 +10,20 @@
 --   closer  from any moment on, while no index is lost, after n arrivals a frequency's difference d satisfies
 --           8^n d ≤ 3^n D + 8^n 2^143 for every D that is at least the difference before, both in units of 2^-149;
 --   close   and from the fifteenth arrival on d ≤ 2^144, which is 1/32.
--- What it is about. `rejoin` is over any list of code rows that passes the one test of rows, `rowsPass` of spec_tables (every number lies
+-- What it is about. `rejoin` is over any list of code rows that passes the one test of rows, `rows_pass` of spec_tables (every number lies
 -- within -8,192..8,192), and any choice of an index of 24 bits: a longer one would be refused. `line_of` is it with the real search:
--- `quantiseLspFreq rows` and `decodeLspFreq rows` of spec_lsp, for every such list. `line` is it with the built-in rows, and so is about the
+-- `quantise_lsp_freq rows` and `decode_lsp_freq rows` of spec_lsp, for every such list. `line` is it with the built-in rows, and so is about the
 -- definitions that the contracts of `quantise_lsp_freq` and `decode_lsp_freq` cite.
 -- Assumes nothing.
 use mathlib.Core.Path.{◌≡◌, refl, ap}
 use mathlib.Core.Bool.{Bool, true, false, not}
 use mathlib.Core.List.{List}
-use Prim.Native.Nat.{ℕ, ◌+◌, ◌*◌, ◌≤◌}
-use lib.Dec.{T}
+use Prim.Native.Nat.{ℕ, ◌+◌, ◌*◌}
 use lib.IntN.{ℤ}
 use lib.Ieee.{Float}
 use lib.Ieee.Scale.{finite}
 use Rattle.float.specs.declared.Lines.{Lines}
-use Rattle.float.specs.Difference.{difference}
 use Rattle.float.specs.Refusal.{all}
-use Rattle.float.specs.Vector.{at}
-use Rattle.spec_tables.specs.Bounds.{rows_pass}
 use Rattle.spec_tables.specs.Codebook.{lsp_rows}
 use Rattle.spec_tables.proofs.BuiltIn.{rows_pass_lem}
 use Rattle.spec_lsp.specs.declared.quantise.Quantised.{Quantised}
@@ -37,7 +33,7 @@ use Rattle.spec_lsp.proofs.Choice.{index_24}
 use Rattle.spec_lsp.proofs.Refusals.{quantise_done, quantised_24}
 use Rattle.line.specs.declared.Turn.{Turn}
 use Rattle.line.specs.Line.{run, arrivals}
-use Rattle.line.specs.Claim.{start, Rejoin}
+use Rattle.line.specs.Claim.{Passing, Short, start, Rejoin}
 use Rattle.line.proofs.Held.{u, held_resting, held_finite, held_bounded, held_apart, ten_held}
 use Rattle.line.proofs.Powers.{demanded, settled}
 use Rattle.line.proofs.Turns.{Both, takes, run_kept, equal_run, closer_run}
@@ -47,8 +43,7 @@ finite_of true h = refl
 finite_of false h = absurd (mathlib.Core.Bool.true≢false h)
 
 -- ---- any rows that pass, any choice of an index of 24 bits
-module _ (rows : List ℤ) (R : T (rows_pass rows)) (choice : List Float → List Float → ℕ)
-    (C : (p prev : List Float) → choice p prev ≤ 16777215) where
+module _ (rows : List ℤ) (R : Passing rows) (choice : List Float → List Float → ℕ) (C : Short choice) where
   both : (turns : List Turn) → Both (run (quantise_by rows choice) (decode_lsp_freq rows) start turns)
   both turns = run_kept rows R choice C start turns (record { coder = held_resting; decoder = held_resting })
 
@@ -76,7 +71,7 @@ module _ (rows : List ℤ) (R : T (rows_pass rows)) (choice : List Float → Lis
   }
 
 -- ---- any rows that pass, and the search
-pub line_of : (rows : List ℤ) → T (rows_pass rows) → Rejoin (quantise_lsp_freq rows) (decode_lsp_freq rows)
+pub line_of : (rows : List ℤ) → Passing rows → Rejoin (quantise_lsp_freq rows) (decode_lsp_freq rows)
 unfolding quantise_lsp_freq
 line_of rows R = rejoin rows R (index_of rows) (index_24 rows)
 

@@ -7,18 +7,18 @@ use mathlib.Core.List.{List, [], ◌∷◌}
 use Prim.Native.Nat.{ℕ, suc, ◌+◌, ◌*◌, ◌^◌, ◌≤◌, ◌<◌}
 use native.Mathlib.Nat.{le_refl}
 use native.Mathlib.Omega.{arith}
-use lib.Dec.{T, eqb→eq}
+use lib.Dec.{eqb→eq}
 use lib.IntN.{ℤ}
 use lib.Ieee.{Float}
 use Rattle.float.specs.Difference.{difference}
 use Rattle.float.specs.Vector.{at}
-use Rattle.spec_tables.specs.Bounds.{rows_pass}
 use Rattle.spec_lsp.specs.Decode.{decoded, decode_lsp_freq}
 use Rattle.spec_lsp.specs.Quantise.{quantise_by}
 use Rattle.spec_lsp.proofs.Refusals.{decode_done, quantised_set}
 use Rattle.line.specs.declared.Turn.{Turn}
 use Rattle.line.specs.declared.Ends.{Ends}
 use Rattle.line.specs.Line.{sends, arrives, loses, received, step, run, tally, arrivals, losses}
+use Rattle.line.specs.Claim.{Passing, Short}
 use Rattle.line.proofs.Held.{u, Held, held_decoded, held_finite, held_bounded, decoded_shrinks}
 use Rattle.line.proofs.Powers.{none, more}
 
@@ -26,8 +26,7 @@ pub record Both (ends : Ends) : Type 0 where
   pub coder : Held ends.coder
   pub decoder : Held ends.decoder
 
-module _ (rows : List ℤ) (R : T (rows_pass rows)) (choice : List Float → List Float → ℕ)
-    (C : (p prev : List Float) → choice p prev ≤ 16777215) where
+module _ (rows : List ℤ) (R : Passing rows) (choice : List Float → List Float → ℕ) (C : Short choice) where
   -- ---- the decoder takes what arrives
   pub takes : (index : ℕ) (set : List Float) → index ≤ 16777215 → Held set →
       decode_lsp_freq rows index set ≡ record { status = 0; lines = decoded rows index set }

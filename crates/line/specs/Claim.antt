@@ -1,7 +1,7 @@
 -- What demand 3 claims of a coder and a decoder, clause by clause: for every list of turns, whatever is given to the coder and whichever
 -- indices the line brings. Differences are counted in whole units of 2^-149, and the values they are taken of are finite.
 -- Added by design, around §2.5 and §2.6; document 01, B29 and D1 to D12. Assumes nothing.
-use Rattle.std.specs.Prelude.{ℕ, ◌+◌, ◌*◌, ◌^◌, ◌≤◌, ◌<◌, ◌≡◌, false, List, T, length, Float}
+use Rattle.std.specs.Prelude.{ℕ, ◌+◌, ◌*◌, ◌^◌, ◌≤◌, ◌<◌, ◌≡◌, false, List, ℤ, T, length, Float}
 use Rattle.std.specs.Float.{binary32}
 use Rattle.std.specs.Float.Ieee.{fits}
 use Rattle.std.specs.Float.Ieee.Scale.{finite}
@@ -9,6 +9,7 @@ use Rattle.float.specs.Difference.{difference}
 use Rattle.float.specs.Finite.{not_finite, any_exceeds}
 use Rattle.float.specs.Single.{single}
 use Rattle.float.specs.Vector.{at}
+use Rattle.spec_tables.specs.Bounds.{rows_pass}
 use Rattle.spec_lsp.specs.Resting.{resting}
 use Rattle.line.specs.declared.Turn.{Turn}
 use Rattle.line.specs.declared.Ends.{Ends}
@@ -17,6 +18,14 @@ use Rattle.line.specs.Line.{Set, Coder, Decoder, arrives, run, arrivals, losses}
 -- the resting set, at both ends before the first turn
 abbrev pub start : Ends
 start = record { coder = resting; decoder = resting }
+
+-- what is asked of the rows: that they pass the one test of rows
+abbrev pub Passing : List ℤ → Type 0
+Passing rows = T (rows_pass rows)
+
+-- and of the coder's choice of an index: that it has 24 bits
+abbrev pub Short : (Set → Set → ℕ) → Type 0
+Short choice = (p prev : Set) → choice p prev ≤ 16777215
 
 -- a finite single within 16,384 of another
 pub record Near (x rest : Float) : Type 0 where

@@ -1,4 +1,6 @@
 // Both ends of a line, turn by turn: what `proofs/Rejoin.antt` is about, as a function that a program can run.
+#![tactic(auto)]
+
 ghost use Rattle.std.specs.Prelude.{◌≡◌};
 ghost use Rattle.spec_tables.specs.Codebook.{lsp_rows};
 ghost use Rattle.spec_lsp.specs.Decode.{decode_lsp_freq};
@@ -16,7 +18,7 @@ pub struct Turn {
 }
 
 // Each end's set.
-#[derive(Drop)]
+#[derive(Clone, Copy)]
 pub struct Ends {
     pub coder: [f32; 10],
     pub decoder: [f32; 10],

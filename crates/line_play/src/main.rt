@@ -2,6 +2,8 @@
 // After each row of arrivals it writes the largest difference of the two ends in units of 1/64, rounded up, beside the bound of the theorem in
 // crates/line/proofs/Rejoin.antt, (3/8)^n times the difference before and one unit, with one unit more for the rounding; and whether it held.
 // Then the widest gap that the built-in rows can make, which shows how little slack the theorem has: 13 arrivals do not bring it down to two units, 1/32.
+#![tactic(auto)]
+
 ghost use Rattle.std.specs.Prelude.{◌<◌};
 
 use line::{Ends, Turn};

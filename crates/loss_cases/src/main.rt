@@ -1,8 +1,12 @@
 // The worked cases of request E7 that are run: what is printed for patterns right and wrong, and the numbers behind edits that no program shows.
+#![tactic(auto)]
+
 ghost use Rattle.std.specs.Prelude.{◌≡◌, length};
 
-use libc::STDOUT_FILENO;
 use spec_lsp::{decode, resting};
+
+// Standard output, by its number.
+const STDOUT_FILENO: i32 = 1;
 
 // A name, and what is printed for a pattern.
 fn printed(name: &[u8], text: &[u8]) {

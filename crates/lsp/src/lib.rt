@@ -1,4 +1,6 @@
 // Line spectral pairs: from the prediction filter to their cosines.
+#![tactic(auto)]
+
 ghost use Rattle.std.specs.Prelude.{◌≡◌};
 ghost use Rattle.float.specs.Table.{table};
 ghost use Rattle.quarter.specs.Quarter.{quarter_table};

@@ -1,7 +1,7 @@
 -- A polynomial multiplied by a quadratic in place, from its degree d down: the places above i are new, those up to i are old,
 -- so that each new coefficient is made of old ones. Assumes nothing.
-use mathlib.Core.Path.{◌≡◌, refl, sym, ap, ◌∙◌, subst}
-use mathlib.Core.Bool.{Bool, true, false, cond, ◌&&◌}
+use mathlib.Core.Path.{◌≡◌, refl, ap, ◌∙◌}
+use mathlib.Core.Bool.{Bool, true, false, cond}
 use mathlib.Core.List.{List}
 use Prim.Native.Nat.{ℕ, zero, suc, ◌+◌, ◌-◌, ◌≤◌, ◌<◌, zero-le}
 use native.Mathlib.Nat.{le_refl}
@@ -9,11 +9,11 @@ use native.Mathlib.Omega.{arith}
 use lib.Dec.{leb, lit<}
 use lib.Ieee.{Float, nan, neg, binary32, of_bits, round}
 use lib.ListN.{get_or, length, set}
-use borrow.Author.Tests.{le-leb, lt-leb, leb-true, leb-false, lt-ltb, le-ltb}
+use borrow.Author.Tests.{le-leb, lt-leb, leb-true, leb-false}
 use Rattle.float.specs.Table.{table}
 use Rattle.float.specs.Single.{◌⊕◌, ◌⊖◌, ◌⊗◌, single}
 use Rattle.float.proofs.Table.{at_table, same_table}
-use Rattle.float.proofs.Change.{as_table, set_table, between, between_none, between_down, in_range, below_range, above_range}
+use Rattle.float.proofs.Change.{as_table, between, between_none, between_down, in_range, below_range, above_range}
 use Rattle.lsp_filter.specs.Polynomial.{coefficient, quadratic}
 
 -- what stands in p

@@ -1,4 +1,6 @@
 // From line sets to filters: the lines of a subframe between two frames' sets, and the filter of a set.
+#![tactic(auto)]
+
 ghost use Rattle.std.specs.Prelude.{◌≡◌, ◌≤◌};
 ghost use Rattle.float.specs.Table.{table};
 ghost use Rattle.float.specs.Refusal.{first};

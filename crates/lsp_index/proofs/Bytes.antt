@@ -2,12 +2,11 @@
 -- one of its three rows: no other word decodes in its place. Assumes nothing.
 use mathlib.Core.Path.{◌≡◌, refl, sym, ap, ◌∙◌}
 use mathlib.Core.Bool.{Bool, true, false, cond}
-use mathlib.Core.List.{List, [], ◌∷◌}
+use mathlib.Core.List.{[], ◌∷◌}
 use Prim.Native.Nat.{ℕ, ◌+◌, ◌*◌, ◌/◌, ◌%◌, ◌≤◌, ◌<◌}
 use native.Mathlib.Omega.{arith}
 use borrow.Author.Tests.{lt-ltb, le-ltb}
 use lib.Dec.{ltb→lt, nltb→le}
-use Rattle.lsp_index.specs.declared.SplitIndex.{SplitIndex}
 use Rattle.lsp_index.specs.Index.{combine, bytes, too_long, refused_split, split_as, split}
 
 -- ---- the three bytes

@@ -1,4 +1,6 @@
 // The 24-bit index that is sent: a byte for each band, band 0 in the highest.
+#![tactic(auto)]
+
 ghost use Rattle.std.specs.Prelude.{◌≡◌, ◌<◌};
 ghost use Rattle.lsp_index.specs.Index.{bytes, refused_split, split, combine};
 

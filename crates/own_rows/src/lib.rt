@@ -1,5 +1,7 @@
 // Code rows that the caller lends (request E5): a row of them, and the operations over them. Rows are 2,560 numbers; what a load has
 // passed is not tested again.
+#![tactic(auto)]
+
 ghost use Rattle.std.specs.Prelude.{◌≡◌, ◌≤◌};
 ghost use Rattle.own_rows.specs.Row.{row_status, band_of, no_place, place_in, row_place, row_part, row_address};
 ghost use Rattle.own_rows.specs.Own.{quantise_in, decode_in, code_frame_in};

@@ -1,17 +1,16 @@
 -- The gate is one comparison: 5683158522975351 / 2^53 is the largest double that passes. It passes, the next double does not, and what passes falls with t.
 -- Assumes nothing.
 use mathlib.Core.Path.{◌≡◌, refl, sym, ap, ◌∙◌, subst}
-use mathlib.Core.Logic.{inl, inr}
 use mathlib.Core.Bool.{Bool, true, false, ◌&&◌, ◌||◌, not}
 use Prim.Native.Nat.{ℕ, zero, suc, ◌+◌, ◌-◌, ◌*◌, ◌%◌, ◌^◌, ◌≤◌, ◌<◌}
-use native.Mathlib.Nat.{le_trans, lt_of_not-le, lt_irrefl, lt_of_lt_of_le, lt_of_le_of_lt, mul_assoc, mul_comm, mul-one, mul-le-mul_left, mul-le-mul_right, lt_of_mul-lt-mul_right, not-suc-le-zero, zero-mul}
+use native.Mathlib.Nat.{le_trans, lt_of_not-le, lt_irrefl, lt_of_lt_of_le, lt_of_le_of_lt, mul_assoc, mul-one, mul-le-mul_left, mul-le-mul_right, lt_of_mul-lt-mul_right}
 use native.Mathlib.Omega.{arith}
 use lib.Dec.{T, leb, ltb, eqb, leb→le, le→leb, nleb→lt, ltb→lt, lit≤, lit<, T_not, not_T}
 use lib.IntN.{ℤ, pos, negsuc}
 use lib.Pow.{pow_pos, pow_mono, pow-add}
-use lib.Ieee.{Float, nan, inf, fin, binary64, prec, emax, low, up, down, fits, below, level, lt, eq, le}
+use lib.Ieee.{Float, nan, inf, fin, binary64, emax, low, up, down, fits, below, level, lt, eq, le}
 use lib.Ieee.Fits.{down_pos, and_l, and_r}
-use Rattle.float.proofs.Order.{Under, test_under, under_test}
+use Rattle.float.proofs.Order.{test_under, under_test}
 use Rattle.pitch.specs.Gate.{gate}
 use Rattle.pitch.proofs.Powers.{passes_below, fails_above}
 

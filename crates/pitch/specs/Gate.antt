@@ -1,6 +1,6 @@
 -- The gate of harmonic noise shaping: with t = 1 − min(1, C/E) rounded in double, it passes exactly if 10 × t^5 ≤ 1 in exact arithmetic.
 -- §2.11 (eq. 16, 17); document 01, B55. C/E is a finite number for every buffer that is accepted. Assumes nothing.
-use Rattle.std.specs.Prelude.{Bool, true, false, cond, ℕ, ◌*◌, ◌^◌, leb, Float}
+use Rattle.std.specs.Prelude.{Bool, true, false, cond, ◌*◌, ◌^◌, leb, Float}
 use Rattle.std.specs.Float.{nan, inf, fin}
 use Rattle.std.specs.Float.Ieee.{up, down, lt}
 use Rattle.float.specs.Double.{◌⊟◌, ◌⧄◌, double}

@@ -1,5 +1,7 @@
 // Open-loop pitch (§2.9) and the settings of harmonic noise shaping (§2.11), over the weighted speech: history, then the frame.
 // The caller's limit stands first: its lags end there, and reach = limit + 3 samples of history stand before what is looked at (request E6).
+#![tactic(auto)]
+
 ghost use Rattle.std.specs.Prelude.{◌≡◌, suc, ◌+◌, ◌≤◌, max, get_or};
 ghost use Rattle.std.specs.Float.{nan};
 ghost use Rattle.float.specs.Table.{table};
@@ -21,7 +23,7 @@ pub struct OpenLoop {
 }
 
 // Settings of the harmonic noise shaping filter 1 − beta·z^−lag.
-#[derive(Drop)]
+#[derive(Clone, Copy)]
 pub struct HnsParams {
     pub lag: u32,
     pub beta: f32,

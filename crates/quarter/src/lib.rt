@@ -1,5 +1,7 @@
 // The quarter cosine of document 01's cosine rule: 2,049 whole numbers, and nothing else, since each edit rechecks all that stands on them.
 // Entry i is the whole number nearest 2^30 × cos(π × i / 4096).
+#![tactic(auto)]
+
 ghost use Rattle.std.specs.Prelude.{◌≡◌};
 ghost use Rattle.quarter.specs.Quarter.{quarter_table};
 

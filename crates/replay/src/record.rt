@@ -2,7 +2,8 @@
 // at the line's end a line feed.
 ghost use Rattle.std.specs.Prelude.{◌≡◌, ◌+◌, ◌^◌, ◌≤◌, length};
 
-use libc::STDIN_FILENO;
+// Standard input, by its number.
+const STDIN_FILENO: i32 = 0;
 
 // What stands next in the list.
 #[derive(Drop)]

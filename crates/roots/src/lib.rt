@@ -1,5 +1,7 @@
 // The roots of a cosine series: bracketed between neighbours of 1,025 points from cosine 1 down to −1, and each bracket halved fifty
 // times. Scan and halvings together are the walk of `rootsOf`.
+#![tactic(auto)]
+
 ghost use Rattle.std.specs.Prelude.{◌≡◌, cond, ◌+◌, ◌≤◌, ◌<◌, set};
 ghost use Rattle.std.specs.Float.Ieee.{eq};
 ghost use Rattle.float.specs.Table.{table};

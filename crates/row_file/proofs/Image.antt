@@ -1,16 +1,15 @@
 -- Notes do not count: of a file of allowed length only the last 5,128 bytes are read. And a file that is written as `image` has it loads to the rows
 -- that it was written from. Assumes nothing.
-use mathlib.Core.Path.{◌≡◌, refl, sym, ap, ◌∙◌}
-use mathlib.Core.Bool.{Bool, true, false, not, ◌||◌}
+use mathlib.Core.Path.{◌≡◌, refl, ap, ◌∙◌}
+use mathlib.Core.Bool.{Bool, true, false}
 use mathlib.Core.List.{List, [], ◌∷◌, ◌++◌}
 use Prim.Native.Nat.{ℕ, zero, suc, ◌+◌, ◌-◌, ◌*◌, ◌/◌, ◌%◌, ◌≤◌, ◌<◌}
 use native.Mathlib.Nat.{not-suc-le-zero, le_of_suc-le-suc}
 use native.Mathlib.Omega.{arith}
 use borrow.Author.Tests.{lt-ltb, le-ltb}
-use lib.Dec.{T, eqb}
+use lib.Dec.{T}
 use lib.IntN.{ℤ, pos, negsuc}
 use lib.ListN.{length, get_or, length-append}
-use Rattle.float.specs.Table.{table}
 use Rattle.float.proofs.Table.{same_table, table_entries}
 use Rattle.spec_tables.specs.Bounds.{Inside, row_bound, rows_pass}
 use Rattle.spec_tables.specs.Codebook.{neg, lsp_rows}

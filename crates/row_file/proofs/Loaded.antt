@@ -8,7 +8,7 @@ use lib.IntN.{ℤ}
 use lib.ListN.{length}
 use Rattle.float.proofs.Refusal.{answer_refused, answer_done}
 use Rattle.spec_tables.specs.Bounds.{rows_pass}
-use Rattle.row_file.specs.RowFile.{rows_of, load_status, load}
+use Rattle.row_file.specs.RowFile.{rows_of, load}
 use Rattle.row_file.proofs.Form.{done_passes}
 use Rattle.row_file.proofs.Passing.{rows_length}
 

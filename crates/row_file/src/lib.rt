@@ -1,4 +1,6 @@
 // A file of code rows, loaded into a buffer of the caller (request E5). The library opens no file: it is lent the bytes.
+#![tactic(auto)]
+
 ghost use Rattle.std.specs.Prelude.{◌≡◌, ◌+◌, ◌≤◌, ◌<◌, pos, length};
 ghost use Rattle.spec_tables.specs.Codebook.{neg};
 ghost use Rattle.spec_tables.specs.Bounds.{inside, row_bound, rows_pass};

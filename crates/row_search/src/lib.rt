@@ -1,5 +1,7 @@
 // The search of a code row by weighted squared error, over rows that the caller lends: no table stands here.
 // A row is named by its first number's place; the rows of a search stand one after the other.
+#![tactic(auto)]
+
 ghost use Rattle.std.specs.Prelude.{◌≡◌, ◌+◌, ◌*◌, ◌≤◌, length};
 ghost use Rattle.spec_tables.specs.Rows.{row_from};
 ghost use Rattle.row_search.specs.Error.{row_error};

@@ -1,5 +1,7 @@
 // The Recommendation's tables that the analysis reads, and the three bands of its line quantiser. Consts have the Rust's names.
 // A table is read by binding it once, as `let t = lsp_rows();`, and lending `&t`: a const that is named in a loop is copied at each use.
+#![tactic(auto)]
+
 ghost use Rattle.std.specs.Prelude.{◌≡◌, ◌+◌, ◌*◌, ◌≤◌, length, take};
 ghost use Rattle.spec_tables.specs.Band.{place_of, first_row, all_bands};
 ghost use Rattle.spec_tables.specs.Codebook.{lsp_rows};
@@ -67,7 +69,7 @@ pub fn perceptual_pole() -> [i16; 10]
 }
 
 // A band of the line quantiser.
-#[derive(Drop)]
+#[derive(Clone, Copy)]
 pub enum LspBand {
     Band0,
     Band1,

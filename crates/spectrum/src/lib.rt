@@ -1,4 +1,6 @@
 // The spectrum of a frame (request E2): its lines, quantised, held apart and turned into the filters of the four subframes.
+#![tactic(auto)]
+
 ghost use Rattle.std.specs.Prelude.{◌≡◌, ◌++◌, length};
 ghost use Rattle.spec_tables.specs.Codebook.{lsp_rows};
 ghost use Rattle.spectrum.specs.Lines.{given, lines, stabilised};

@@ -1,4 +1,6 @@
 // The stability procedure of a line set (§2.6, §3.10): lines that stand too close are spread apart, and the outer ones kept off the ends.
+#![tactic(auto)]
+
 ghost use Rattle.std.specs.Prelude.{◌≡◌, true, false, map};
 ghost use Rattle.std.specs.Float.Ieee.Scale.{finite};
 ghost use Rattle.float.specs.Finite.{power, any_exceeds};

@@ -1,6 +1,6 @@
 -- One line of a pattern, test by test. Assumes nothing.
-use mathlib.Core.Path.{◌≡◌, refl, sym, ap, ◌∙◌, subst}
-use mathlib.Core.Bool.{Bool, true, false, not, cond}
+use mathlib.Core.Path.{◌≡◌, ap, ◌∙◌, subst}
+use mathlib.Core.Bool.{true, false, not, cond}
 use mathlib.Core.List.{List}
 use Prim.Native.Nat.{ℕ, ◌+◌}
 use lib.IntN.{ℤ}
@@ -14,7 +14,7 @@ use Rattle.spec_tables.proofs.BuiltIn.{rows_length}
 use Rattle.spec_lsp.specs.Decode.{decode_lsp_freq}
 use Rattle.trial_text.specs.declared.Entry.{Entry}
 use Rattle.trial.specs.declared.State.{State}
-use Rattle.trial.specs.Losses.{after, follow, begin}
+use Rattle.trial.specs.Losses.{after, follow}
 
 pub all_rows : (rows : List ℤ) → rows ≡ lsp_rows → length rows ≡ 2560
 all_rows rows e = ap length e ∙ rows_length

@@ -1,13 +1,12 @@
 -- What holds of both ends at every line of a pattern: each holds a set that the line can hold, of whole multiples of 2^-13. So no index is refused, and
 -- the distance of the ends can be counted. Assumes nothing.
-use mathlib.Core.Path.{◌≡◌, refl, sym, ap, ◌∙◌, subst}
+use mathlib.Core.Path.{◌≡◌, sym, subst}
 use mathlib.Core.Bool.{Bool, true, false, cond}
-use mathlib.Core.List.{List, [], ◌∷◌}
-use Prim.Native.Nat.{ℕ, ◌*◌, ◌^◌, ◌≤◌, ◌<◌, zero-le}
+use mathlib.Core.List.{List}
+use Prim.Native.Nat.{ℕ, ◌*◌, ◌^◌, ◌≤◌, zero-le}
 use native.Mathlib.Nat.{le_trans}
 use lib.Dec.{lit≤}
 use lib.Ieee.{Float}
-use Rattle.float.specs.declared.Lines.{Lines}
 use Rattle.spec_tables.specs.Codebook.{lsp_rows}
 use Rattle.spec_tables.proofs.BuiltIn.{rows_pass_lem}
 use Rattle.spec_lsp.specs.Decode.{decoded, decode_lsp_freq}

@@ -1,5 +1,7 @@
 // A line tried under a loss pattern (request E7): both ends follow the indices of the pattern, and for each line is printed how far they lie apart.
 // `report` makes all that the program `losses` prints of all that it has read.
+#![tactic(auto)]
+
 ghost use Rattle.std.specs.Prelude.{◌≡◌, ◌≤◌, length, take};
 ghost use Rattle.spec_tables.specs.Codebook.{lsp_rows};
 ghost use Rattle.trial.specs.Losses.{after as Losses·after, follow as Losses·follow, begin as Losses·begin, losses};

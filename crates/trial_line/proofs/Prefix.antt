@@ -11,6 +11,7 @@ use lib.Dec.{T, eqb, ltb, leb, eqb→eq}
 use lib.Ieee.Fits.{and_l}
 use lib.ListN.{length, get_or, take}
 use lib.Seq.{take_all, take-nil, length-take-le}
+use Rattle.std.proofs.lemmas.List.{take-take}
 use borrow.Author.Tests.{lt-ltb, le-ltb, leb-true, leb-false}
 use Rattle.float.specs.Refusal.{all}
 use Rattle.trial_text.specs.Pattern.{line_feed, lines, is_digit, hexadecimal, has_form, other, entry_of}
@@ -174,3 +175,7 @@ enough (suc n) = enough_more n (enough n)
 -- ---- the whole text
 pub prefix : (text : List ℕ) → losses text ≡ losses (take 90001 text)
 prefix text = sym (printed_all text) ∙ enough 10000 0 begin text refl ∙ printed_all (take 90001 text)
+
+-- and so any longer part of it will do
+pub prefix_from : (n : ℕ) (text : List ℕ) → 90001 ≤ n → losses text ≡ losses (take n text)
+prefix_from n text h = prefix text ∙ ap losses (sym (take-take 90001 n text h)) ∙ sym (prefix (take n text))

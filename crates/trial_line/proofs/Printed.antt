@@ -10,7 +10,7 @@ use mathlib.Core.Path.{◌≡◌, sym, ap, ◌∙◌}
 use mathlib.Core.Bool.{cond}
 use mathlib.Core.List.{List, [], ◌∷◌, ◌++◌, append_assoc}
 use Prim.Native.Nat.{ℕ, ◌+◌}
-use native.Mathlib.Nat.{zero-add}
+use native.Mathlib.Nat.{zero-add, le_refl}
 use lib.Dec.{eqb}
 use lib.ListN.{length, take}
 use Rattle.trial_text.specs.declared.Entry.{Entry}
@@ -21,7 +21,7 @@ use Rattle.trial.specs.Losses.{begin, report, told, most, losses}
 use Rattle.trial_line.specs.Claim.{runs, Printed}
 use Rattle.trial_line.proofs.Running.{runs_append}
 use Rattle.trial_line.proofs.Told.{told_split, short_entries}
-use Rattle.trial_line.proofs.Prefix.{prefix}
+use Rattle.trial_line.proofs.Prefix.{prefix_from}
 
 -- of entries before one, that one and the rest: what is told of them
 told_here : (before : List Entry) (e : Entry) (rest : List Entry) →
@@ -54,4 +54,4 @@ line_here text before e rest h =
     )
 
 pub printed : Printed
-printed = record { short = λ text. short_entries (take most (lines text)); line = line_here; prefix = prefix }
+printed = record { short = λ text. short_entries (take most (lines text)); line = line_here; prefix = λ text. search (prefix_from, le_refl) }

@@ -29,7 +29,7 @@ use Rattle.ends_apart.proofs.Largest.{largest_each, among_largest}
 use Rattle.trial.specs.Losses.{begin}
 use Rattle.trial.proofs.Live.{Live, taken, live_begin, live_few}
 use Rattle.trial_line.specs.Claim.{runs, apart, Short, Arrive, Tried}
-use Rattle.trial_line.proofs.Running.{runs_append, live_runs, closer_runs, live_apart, same_runs, same_apart}
+use Rattle.trial_line.proofs.Running.{runs_append, live_runs, closer_runs, same_runs, same_apart}
 use Rattle.trial_line.proofs.Running.{Settling, settling_runs, settling_begin}
 
 live : (es : List Entry) → Short es → Live (runs begin es)

@@ -1,4 +1,6 @@
 // What is printed for a loss pattern, put into a buffer from a place on (request E7): a number in decimal, the three numbers of a line, a refusal.
+#![tactic(auto)]
+
 ghost use Rattle.std.specs.Prelude.{◌≡◌, [], ◌∷◌, ◌++◌, ◌+◌, ◌≤◌, length};
 ghost use Rattle.trial_print.specs.Printed.{decimal, space, ended, reported, refusal};
 ghost use Rattle.trial_print.specs.inner.Put.{Put, First};

@@ -1,4 +1,6 @@
 // Loss patterns as text (request E7): a line of a pattern, read from a place of the text.
+#![tactic(auto)]
+
 ghost use Rattle.std.specs.Prelude.{◌≡◌, [], ◌∷◌, ◌+◌, ◌*◌, ◌≤◌, ◌<◌, length, drop};
 ghost use Rattle.trial_text.specs.Pattern.{digit as digit_of, hexadecimal, other, entry_of};
 ghost use Rattle.trial_text.specs.inner.First.{first_line, read_at};

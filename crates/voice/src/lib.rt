@@ -1,4 +1,6 @@
 // The voice of a frame (request E2): its weighted speech, and the pitch and the noise shaping that are found in it.
+#![tactic(auto)]
+
 ghost use Rattle.std.specs.Prelude.{◌≡◌, ◌++◌, length, drop};
 ghost use Rattle.voice.specs.Weighting.{weighed, next, weighting};
 ghost use Rattle.voice.specs.inner.Voice.{gathered, voice};

@@ -1,13 +1,12 @@
 -- A delay holds a memory: at its start the one given, and one sample later that memory with the new value first.
 -- Assumes nothing.
 use mathlib.Core.Path.{◌≡◌, refl, sym, ap, ◌∙◌}
-use mathlib.Core.List.{List, [], ◌∷◌, ◌++◌}
-use Prim.Native.Nat.{ℕ, zero, suc, ◌+◌, ◌-◌, ◌≤◌, ◌<◌, zero-le}
-use native.Mathlib.Nat.{add_comm}
+use mathlib.Core.List.{List, ◌∷◌}
+use Prim.Native.Nat.{ℕ, suc, ◌+◌, ◌-◌, ◌≤◌, ◌<◌, zero-le}
 use native.Mathlib.Numerals.{add-one}
 use native.Mathlib.Omega.{arith}
-use lib.ListN.{length, get_or, take, drop, set, length-set, length-drop}
-use lib.Seq.{take_all, take-suc, take-suc-set, drop-set-add, take_at, ext_get_or, get_or-set_same, get_or-set_other, get_or-take, get_or-drop}
+use lib.ListN.{length, take, drop, set, length-set, length-drop}
+use lib.Seq.{take_all, take-suc, take-suc-set, drop-set-add, get_or-set_same, get_or-set_other, get_or-take}
 use lib.Ieee.{Float, nan}
 use Rattle.float.specs.Table.{table}
 use Rattle.float.specs.Vector.{at}

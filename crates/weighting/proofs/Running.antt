@@ -2,18 +2,18 @@
 -- outputs. Assumes nothing.
 use mathlib.Core.Path.{◌≡◌, refl, sym, ap, ◌∙◌}
 use mathlib.Core.List.{List, [], ◌∷◌, ◌++◌, append-nil}
-use Prim.Native.Nat.{ℕ, zero, suc, ◌+◌, ◌-◌, ◌≤◌, ◌<◌, zero-le}
+use Prim.Native.Nat.{ℕ, zero, suc, ◌+◌, ◌≤◌, ◌<◌, zero-le}
 use native.Mathlib.Nat.{add_comm}
 use native.Mathlib.Numerals.{add-one}
 use native.Mathlib.Omega.{arith}
 use lib.ListN.{length, drop, set, length-set, length-append, drop_of_length-le}
-use lib.Seq.{drop-cons, drop-set-add, get_or-drop, get_or_at, set_at, append_snoc}
+use lib.Seq.{drop-cons, get_or-drop, get_or_at, set_at, append_snoc}
 use lib.Ieee.{Float, nan}
-use Rattle.float.specs.Loop.{times, over}
+use Rattle.float.specs.Loop.{times}
 use Rattle.float.specs.Vector.{at}
 use Rattle.float.proofs.Loop.{over_more}
 use Rattle.weighting.specs.declared.Weighted.{Weighted}
-use Rattle.weighting.specs.Filter.{Filter, weighted, later, sample, filtered, done}
+use Rattle.weighting.specs.Filter.{weighted, sample, filtered, done}
 use Rattle.weighting.specs.inner.Delay.{behind, Delay}
 use Rattle.weighting.proofs.Delay.{behind_next, behind_more}
 

@@ -1,4 +1,6 @@
 // The formant perceptual weighting filter (§2.8): its taps, and one subframe through it.
+#![tactic(auto)]
+
 ghost use Rattle.std.specs.Prelude.{◌≡◌, not, [], ◌∷◌, ◌<◌, length};
 ghost use Rattle.float.specs.Finite.{not_finite};
 ghost use Rattle.float.specs.Refusal.{any, first};
@@ -14,7 +16,7 @@ pub struct WeightingTaps {
     pub wp: [f32; 10],
 }
 
-#[derive(Drop)]
+#[derive(Clone, Copy)]
 pub struct Weighted {
     pub status: u32,
     pub out: [f32; 60],

@@ -9,7 +9,7 @@ use pitch::HnsParams;
 const SPACING: f32 = 31.25;
 
 // What a frame is made of.
-#[derive(Drop)]
+#[derive(Clone, Copy)]
 enum Signal {
     Parabola,
     Pulses,

@@ -2,6 +2,8 @@
 // the cosine rule, whole frames as request E2 has them, the combined filter's memories, which request E3 leaves as they were,
 // indices of 24 bits and longer words, which request E4 refuses, and code rows of a caller's own, which request E5 loads: one line
 // each, and how many passed.
+#![tactic(auto)]
+
 mod cosines;
 mod files;
 mod filters;
@@ -13,7 +15,8 @@ mod narrowing;
 mod rows;
 mod stages;
 
-use libc::STDOUT_FILENO;
+// Standard output, by its number.
+const STDOUT_FILENO: i32 = 1;
 
 #[derive(Drop)]
 struct Tally {
