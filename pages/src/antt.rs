@@ -33,7 +33,7 @@ pub struct File {
 }
 
 impl File {
-    /// What an imported or qualified name stands for, as `crates/lpc/specs/Analysis.antt#lpcAnalysis`, or a module and a name.
+    /// What an imported or qualified name stands for, as `crates/lpc/specs/Analysis.antt#lpc_analysis`, or a module and a name.
     pub fn meaning(&self, name: &str) -> Option<String> {
         if let Some(found) = self.imports.get(name) {
             return Some(found.clone());
@@ -147,10 +147,15 @@ fn imports(line: &str, all: &mut BTreeMap<String, String>) -> Result<(), String>
     Ok(())
 }
 
-/// The names in a text: its words without brackets and separators, and without projections.
+/// The names in a text: its words without brackets and separators, and without the projections of what stands in brackets.
 pub fn names(text: &str) -> impl Iterator<Item = &str> {
     let words = text.split(|c: char| c.is_whitespace() || "()[]{},;".contains(c));
     words.filter(|word| !word.starts_with('.')).map(|word| word.trim_end_matches('.')).filter(|word| !word.is_empty())
+}
+
+/// What a name with dots may be a projection of, itself first: `whole.Sum.found` of a module's `whole.Sum`, or of `whole`.
+pub fn beginnings(name: &str) -> impl Iterator<Item = &str> {
+    std::iter::successors(Some(name), |name| Some(name.rsplit_once('.')?.0))
 }
 
 #[cfg(test)]
@@ -159,13 +164,13 @@ mod tests {
 
     const TEXT: &str = "
 -- A page. Assumes nothing.
-use mathlib.Core.Path.{_≡_, refl}
-use Rattle·half·specs.specs.Half.{
+use Rattle.std.specs.Prelude.{◌≡◌, refl}
+use Rattle.half.specs.Half.{
   halved,
   paired as pair,
 }
-use Rattle·half·proofs.proofs.Whole as whole
-infixl 65 _⊕_
+use Rattle.half.proofs.Whole as whole
+infixl 65 ◌⊕◌
 
 abbrev pub Held : ℕ → Type 0
 Held zero = Unit
@@ -210,26 +215,30 @@ plain = refl
         for (name, meant) in [
             ("halved", "crates/half/specs/Half.antt#halved"),
             ("pair", "crates/half/specs/Half.antt#paired"),
-            ("refl", "mathlib.Core.Path#refl"),
+            ("refl", "Rattle.std.specs.Prelude#refl"),
             ("whole.Sum", "crates/half/proofs/Whole.antt#Sum"),
-            ("Rattle·half.specs.inner.Low.low", "crates/half/specs/inner/Low.antt#low"),
+            ("Rattle.half.specs.inner.Low.low", "crates/half/specs/inner/Low.antt#low"),
         ] {
             assert_eq!(file.meaning(name).as_deref(), Some(meant), "{name}");
         }
-        assert_eq!((file.meaning("Held"), file.meaning("lib.Dec.T")), (None, None));
+        for name in ["Held", "lib.Dec.T", "Rattle.std.specs.Float.nan", "halved.found"] {
+            assert_eq!(file.meaning(name), None, "{name}");
+        }
     }
 
     #[test]
     fn words() {
-        let text = "(k : ℕ) → (λ s. s .found) {a, b}";
-        assert_eq!(names(text).collect::<Vec<_>>(), ["k", ":", "ℕ", "→", "λ", "s", "s", "a", "b"]);
+        let text = "(k : ℕ) → (λ s. s.found) {a, (f b).found}";
+        assert_eq!(names(text).collect::<Vec<_>>(), ["k", ":", "ℕ", "→", "λ", "s", "s.found", "a", "f", "b"]);
+        assert_eq!(beginnings("whole.Sum.found").collect::<Vec<_>>(), ["whole.Sum.found", "whole.Sum", "whole"]);
+        assert_eq!(beginnings("s").collect::<Vec<_>>(), ["s"]);
     }
 
     #[test]
     fn what_is_not_understood() {
         assert!(file("{- hidden -}\nx : ℕ\n").is_err());
         assert!(file("module _ (n : ℕ)\n  x : ℕ\n").is_err());
-        assert!(file("use lib.Ieee\n").is_err());
+        assert!(file("use Rattle.std.specs.Float\n").is_err());
         assert!(file("x = 3\n").is_err());
     }
 }

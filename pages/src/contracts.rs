@@ -1,7 +1,9 @@
 //! Whether each operation and each door promises what docs/TRUST.md says, and asks nothing of its caller.
 
 use crate::args::fail;
-use crate::rattle::{after, functions, imports, short, Equation, Function, Scope, Term, Way, RESULT};
+use crate::rattle::{
+    after, functions, imports, short, Equation, Function, Scope, Term, Way, RESULT, RESULT_IN_CLAUSES,
+};
 use crate::{quoted, read};
 use std::collections::{BTreeMap, BTreeSet};
 use std::fs;
@@ -12,8 +14,10 @@ use std::process::Command;
 mod tests;
 
 pub const PAGE: &str = "docs/TRUST.md";
-/// How the paths of the crates that export doors begin.
-const EXPORTING: &str = "crates/c_api";
+/// How the paths of the doors' crates begin: their libraries, as crates/c_api, and the static libraries that export them, as crates/c_api_c.
+const DOORS: &str = "crates/c_api";
+/// What `x ≡ y` says, by its file.
+const EQUALITY: (&str, &str) = ("◌≡◌", "Rattle.std.specs.Prelude#◌≡◌");
 const LENT: &str = "crates/c_api/specs/Lent.antt#lent";
 /// What a door may make of a part that C has in another form.
 const FORMS: [&str; 3] = [
@@ -82,12 +86,16 @@ pub fn check(page: &str, table: &str, texts: &BTreeMap<String, String>) -> Said 
     }
     for door in &doors {
         let name = format!("g7231_{}{}", if door.bare { "bare_" } else { "" }, door.name);
-        let held = match operations.get(door.name) {
-            Some(operation) => hold(door, &name, operation, &sources),
-            None if rows.iter().any(|row| row.name == door.name) => Err("its operation is not as it should be".into()),
-            None => Err(format!("{PAGE} has no row for its operation")),
+        let Some(operation) = operations.get(door.name) else {
+            let there = rows.iter().any(|row| row.name == door.name);
+            let row = format!("{PAGE} has no row for its operation");
+            faults.push(format!("{name}: {}", if there { "its operation is not as it should be" } else { &row }));
+            continue;
         };
-        faults.extend(held.err().map(|what| format!("{name}: {what}")));
+        for (stand, called) in [(Stand::Export, ""), (Stand::Library, " in its library")] {
+            let held = hold(door, &name, operation, &sources, stand);
+            faults.extend(held.err().map(|what| format!("{name}{called}: {what}")));
+        }
     }
     if rows.is_empty() {
         faults.push(format!("{PAGE} has no table of operations"));
@@ -169,22 +177,50 @@ struct Operation<'a> {
     lent: BTreeMap<String, Vec<Term>>,
 }
 
+/// Where a function stands: with the operations, in a library of doors, or with the exports.
+#[derive(Clone, Copy, PartialEq)]
+enum Stand {
+    Operation,
+    Library,
+    Export,
+}
+
+impl Stand {
+    fn of(path: &str) -> Stand {
+        match path.strip_prefix(DOORS).and_then(|rest| rest.split('/').next()) {
+            None => Stand::Operation,
+            Some(rest) if rest.ends_with("_c") => Stand::Export,
+            Some(_) => Stand::Library,
+        }
+    }
+}
+
 /// A public function, by its name, and the names that its clauses may use.
-fn public<'a>(name: &str, sources: &'a [Source], doors: bool) -> Result<(&'a Function, Scope<'a>), String> {
+fn public<'a>(name: &str, sources: &'a [Source], stand: Stand) -> Result<(&'a Function, Scope<'a>), String> {
     let mut found = Vec::new();
-    for source in sources.iter().filter(|source| source.path.starts_with(EXPORTING) == doors) {
+    for source in sources.iter().filter(|source| Stand::of(source.path) == stand) {
         found.extend(source.functions.iter().filter(|one| one.public && one.name == name).map(|one| (source, one)));
     }
     let [(source, function)] = found[..] else {
         return Err(format!("there are {} public functions of this name, and one is wanted", found.len()));
     };
+    if stand == Stand::Export && !function.exported {
+        return Err("C cannot call it by its name".into());
+    }
+    // a bound may be a condition, and of a function that may wait for ever nothing is promised
+    if function.generic {
+        return Err("it leaves a type open, and may leave none".into());
+    }
     let imports = source.imports.as_ref().map_err(|what| format!("{}: {what}", source.path))?;
     // words of the clauses' frame mean what the logic has them mean
     for (name, from) in imports {
-        let frame = name.contains(['≡', '×', '∗', '⌜', '⌝']) || name == "now";
-        if frame && from != "mathlib.Core.Path#_≡_" {
+        let frame = name.contains(['≡', '×', '→', '∗', '⌜', '⌝']) || name == RESULT_IN_CLAUSES;
+        if frame && (name.as_str(), from.as_str()) != EQUALITY {
             return Err(format!("{} imports {name} from {from}", source.path));
         }
+    }
+    if function.parameters.iter().any(|parameter| parameter.name == RESULT_IN_CLAUSES) {
+        return Err(format!("a parameter is named {RESULT_IN_CLAUSES}"));
     }
     Ok((function, Scope { parameters: &function.parameters, imports }))
 }
@@ -215,12 +251,12 @@ fn ensured(function: &Function, scope: &Scope) -> Result<Vec<Equation>, String> 
 
 /// The first places of a lent buffer, as many as the answer says: all that an operation tells of where it puts so much and no more.
 fn front(parameter: &str) -> Vec<Term> {
-    vec![Term::word("lib.ListN#take"), Term::word(RESULT), after(parameter)]
+    vec![Term::word("Rattle.std.specs.Prelude#take"), Term::word(RESULT), after(parameter)]
 }
 
 /// Holds an operation to its row.
 fn operation<'a>(row: &Row, sources: &'a [Source]) -> Result<Operation<'a>, String> {
-    let (function, scope) = public(row.name, sources, false)?;
+    let (function, scope) = public(row.name, sources, Stand::Operation)?;
     let ensured = ensured(function, &scope)?;
     let mut wanted = Vec::new();
     for text in &row.contract {
@@ -231,7 +267,11 @@ fn operation<'a>(row: &Row, sources: &'a [Source]) -> Result<Operation<'a>, Stri
     let lent = function.parameters.iter().filter(|parameter| parameter.way == Way::Lent);
     sides.extend(lent.map(|parameter| {
         let front = front(&parameter.name);
-        if wanted.iter().any(|one| one.left == front) { front } else { vec![after(&parameter.name)] }
+        if wanted.iter().any(|one| one.left == front) {
+            front
+        } else {
+            vec![after(&parameter.name)]
+        }
     }));
     for side in &sides {
         let Some(one) = wanted.iter().find(|one| one.left == *side) else {
@@ -266,9 +306,9 @@ fn operation<'a>(row: &Row, sources: &'a [Source]) -> Result<Operation<'a>, Stri
     Ok(Operation { function, answer, lent })
 }
 
-/// Holds a door to its operation.
-fn hold(door: &Door, name: &str, operation: &Operation, sources: &[Source]) -> Result<(), String> {
-    let (function, scope) = public(name, sources, true)?;
+/// Holds a door to its operation: its export, or the function of that name in a library of doors.
+fn hold(door: &Door, name: &str, operation: &Operation, sources: &[Source], stand: Stand) -> Result<(), String> {
+    let (function, scope) = public(name, sources, stand)?;
     let mut ensured = ensured(function, &scope)?;
     let lent = function.parameters.iter().filter(|parameter| parameter.way == Way::Lent);
     let lent: BTreeSet<&str> = lent.map(|parameter| parameter.name.as_str()).collect();
@@ -376,7 +416,7 @@ impl Fitting<'_> {
                 let whole = self.operation.function.parameters.iter().any(|parameter| parameter.name == *name);
                 let built = match &inner[..] {
                     [Term::Word(by), rest @ ..] => {
-                        let file = by.strip_prefix(EXPORTING).and_then(|of| of.split_once('/'));
+                        let file = by.strip_prefix(DOORS).and_then(|of| of.split_once('/'));
                         file.is_some_and(|(_, path)| path.starts_with("specs/"))
                             && rest.iter().all(|one| word(one).is_some_and(door_has))
                     }

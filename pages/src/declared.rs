@@ -154,16 +154,16 @@ mod tests {
     #[test]
     fn antt() {
         let text = "
-use lib.Ieee.{Float, nan}
-use Rattle·float.specs.Single.{
+use Rattle.std.specs.Float.{Float, nan}
+use Rattle.float.specs.Single.{
     single}
 -- mentioned : here
 {- also : here
 also : there -}
-infixl 60 _⊕_
+infixl 60 ◌⊕◌
 
-unfoldable pub _⊕_ : Float → Float → Float
-_⊕_ x y = add x y
+unfoldable pub ◌⊕◌ : Float → Float → Float
+x ⊕ y = add x y
 
 abbrev pub met {ℓ} : {A : Type ℓ} → A
 met x = other x
@@ -171,12 +171,12 @@ met x = other x
   helper : ℕ
 pub record Held (x : ℕ) : Type 0 where
   pub within : x ≤ 4
-  «p_hist» : ℕ
+  «data» : ℕ
 pub data Way : Type 0 where
   up : Way
 plain : ℕ
 ";
-        let declared = ["_⊕_", "met", "Held", "within", "p_hist", "Way", "up", "plain", "helper"];
+        let declared = ["◌⊕◌", "met", "Held", "within", "data", "Way", "up", "plain", "helper"];
         check(
             "a.antt",
             text,
@@ -188,7 +188,7 @@ plain : ℕ
     #[test]
     fn rt_and_rust() {
         let text = "
-ghost use Rattle·convert·specs.specs.Convert.{freqToCosines};
+ghost use Rattle.convert.specs.Convert.{freq_to_cosines};
 use float::Lines;
 // fn mentioned()
 /* struct Gone { x: u32 } */
@@ -200,8 +200,9 @@ pub struct Held<'a> {
     wz: Vec<(u32, &'a str)>,
 }
 enum Band { Low, High(u32), Mid = 3 }
+#[unsafe(no_mangle)]
 pub extern \"C\" fn door(p: *const Other, lag: u32) -> u32
-    ensures { λ r. ⌜ r ≡ freqToCosines p ⌝ }
+    ensures { result ≡ freq_to_cosines p }
 {
     let status = 0;
     call(Lines { status: 0, lines })
@@ -209,7 +210,7 @@ pub extern \"C\" fn door(p: *const Other, lag: u32) -> u32
 ";
         let declared = ["ALL", "Held", "syn", "wz", "Band", "Low", "High", "Mid", "door"];
         let not = [
-            "freqToCosines",
+            "freq_to_cosines",
             "Lines",
             "mentioned",
             "Gone",

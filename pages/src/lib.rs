@@ -42,16 +42,25 @@ pub fn edits_of(top: &Path) -> std::io::Result<Vec<PathBuf>> {
     Ok(all)
 }
 
-/// The crates that crates.txt lists, in its order.
+/// The crates that crates.txt lists, in its order. What a crate is made into may stand behind its name, as `c_api_c staticlib: ..`.
 pub fn crates(top: &Path) -> Vec<String> {
-    let text = read(&top.join("crates.txt"));
+    crates_in(&read(&top.join("crates.txt")))
+}
+
+fn crates_in(text: &str) -> Vec<String> {
     let lines = text.lines().map(|line| line.split('#').next().unwrap_or(""));
-    lines.filter_map(|line| Some(line.split_once(':')?.0.trim().to_string())).collect()
+    lines.filter_map(|line| line.split_once(':')?.0.split_whitespace().next().map(String::from)).collect()
 }
 
 /// What stands in backquotes.
 pub fn quoted(text: &str) -> impl Iterator<Item = &str> {
     text.lines().flat_map(|line| line.split('`').skip(1).step_by(2))
+}
+
+#[test]
+fn names_of_crates() {
+    let text = "# half: of old\nhalf:\nwhole bin: half # and: more\n\nwhole_c staticlib: half whole\n";
+    assert_eq!(crates_in(text), ["half", "whole", "whole_c"]);
 }
 
 /// For a test: each of some texts as it is, but for one that has one place altered.

@@ -5,6 +5,10 @@ use std::collections::BTreeMap;
 pub struct Function {
     pub name: String,
     pub public: bool,
+    /// Whether C can call it by its name: `#[unsafe(no_mangle)]`, and `extern "C"`.
+    pub exported: bool,
+    /// Whether it leaves types open, with a bound on them or none.
+    pub generic: bool,
     pub parameters: Vec<Parameter>,
     pub clauses: Vec<Clause>,
 }
@@ -36,15 +40,21 @@ pub fn functions(text: &str) -> Result<Vec<Function>, String> {
         if before.chars().next_back().is_some_and(|c| !c.is_whitespace()) {
             continue;
         }
-        let line = before.lines().next_back().unwrap_or("");
-        let public = line.split_whitespace().next() == Some("pub");
-        let mut found = function(&text[at + 3..], public)?;
+        let line = before.rsplit('\n').next().unwrap_or("");
+        let mut found = function(&text[at + 3..])?;
+        found.public = line.split_whitespace().next() == Some("pub");
+        found.exported = line.ends_with("extern \"C\" ") && attributes(before).any(|one| one == "#[unsafe(no_mangle)]");
         if let Some(of) = type_around(before) {
             found.name = format!("{}_{}", found.name, door_word(of));
         }
         all.push(found);
     }
     Ok(all)
+}
+
+/// The attributes of the item in whose first line a text ends, each on a line of its own.
+fn attributes(before: &str) -> impl Iterator<Item = &str> {
+    before.rsplit('\n').skip(1).map(str::trim).take_while(|line| line.starts_with("#[") || line.is_empty())
 }
 
 /// What the doors call a type: its own name in small letters, but for the one whose own name is the Rust's.
@@ -61,22 +71,36 @@ fn type_around(text: &str) -> Option<&str> {
     block.strip_prefix("impl ")?.split_whitespace().next()
 }
 
-fn function(text: &str, public: bool) -> Result<Function, String> {
-    let open = text.find('(').ok_or("a function has no parameters")?;
-    let name = text[..open].trim().to_string();
+fn function(text: &str) -> Result<Function, String> {
+    let ends = text.find(|c: char| !(c.is_alphanumeric() || c == '_')).unwrap_or(text.len());
+    let name = text[..ends].to_string();
+    let types = if text[ends..].starts_with('<') { angle(&text[ends..]) } else { Some(0) };
+    let open = types.map(|long| ends + long).filter(|at| !name.is_empty() && text[*at..].starts_with('('));
+    let open = open.ok_or_else(|| format!("{name}: a function has no parameters"))?;
+    let mut generic = open > ends;
     let wrong = |what: String| format!("{name}: {what}");
     let close = open + closing(&text[open..]).ok_or_else(|| wrong("its parameters have no end".into()))?;
     let parameters = parts(&text[open + 1..close], ',').iter().map(|part| parameter(part)).collect::<Result<_, _>>();
+    generic |= text[open..close].split(|c: char| !c.is_alphanumeric()).any(|word| word == "impl" || word == "dyn");
     let (mut rest, mut clauses) = (&text[close + 1..], Vec::new());
     loop {
         let brace = head_end(rest).ok_or_else(|| wrong("it has no body".into()))?;
         let head = &rest[..brace];
-        let Some((before, word, after)) = clause_word(head) else {
-            if !is_result(head, clauses.is_empty()) {
+        let (before, word, after) = clause_word(head).unwrap_or((head, "", ""));
+        // bounds stand before the clauses
+        let before = match before.split_whitespace().find(|word| *word == "where" && clauses.is_empty()) {
+            Some(bounds) => {
+                generic = true;
+                &before[..bounds.as_ptr() as usize - before.as_ptr() as usize]
+            }
+            None => before,
+        };
+        if word.is_empty() {
+            if !is_result(before, clauses.is_empty()) {
                 return Err(wrong(format!("`{}` is not understood", head.trim())));
             }
             break;
-        };
+        }
         if !is_result(before, clauses.is_empty()) || after.split_whitespace().count() > 1 {
             return Err(wrong(format!("`{}` is not understood", head.trim())));
         }
@@ -84,7 +108,7 @@ fn function(text: &str, public: bool) -> Result<Function, String> {
         clauses.push(Clause { word: word.to_string(), text: rest[brace + 1..end].trim().to_string() });
         rest = &rest[end + 1..];
     }
-    Ok(Function { parameters: parameters.map_err(wrong)?, name, public, clauses })
+    Ok(Function { parameters: parameters.map_err(wrong)?, name, public: false, exported: false, generic, clauses })
 }
 
 /// A parameter, `name: type`.
@@ -150,6 +174,23 @@ fn closing(text: &str) -> Option<usize> {
     None
 }
 
+/// How long the list of a function's types is, `<..>`.
+fn angle(text: &str) -> Option<usize> {
+    let (mut depth, mut last) = (0, ' ');
+    for (at, c) in text.char_indices() {
+        match c {
+            '<' => depth += 1,
+            '>' if last != '-' => depth -= 1,
+            _ => {}
+        }
+        if depth == 0 {
+            return Some(at + 1);
+        }
+        last = c;
+    }
+    None
+}
+
 /// What stands between separators outside brackets, but for what is empty.
 fn parts(text: &str, separator: char) -> Vec<&str> {
     let (mut depth, mut from, mut all) = (0, 0, Vec::new());
@@ -191,7 +232,7 @@ pub fn without_comments(text: &str) -> String {
 }
 
 /// What a file's `ghost use` lines bring: each name, and the file and name that it stands for, as
-/// `crates/lpc/specs/Analysis.antt#lpcAnalysis`; of what is not the repository's, the module and the name.
+/// `crates/lpc/specs/Analysis.antt#lpc_analysis`; of what is not the repository's, the module and the name.
 pub fn imports(text: &str) -> Result<BTreeMap<String, String>, String> {
     let mut all = BTreeMap::new();
     let text = without_comments(text);
@@ -210,16 +251,16 @@ pub fn imports(text: &str) -> Result<BTreeMap<String, String>, String> {
     Ok(all)
 }
 
-/// The file of a module of this repository; of another, the module.
+/// The file of a module of this repository; of another, the module. No crate is named as the kit's own library, `std`.
 pub fn place(module: &str) -> String {
-    let found = module.strip_prefix("Rattle·").and_then(|rest| {
+    let found = module.strip_prefix("Rattle.").and_then(|rest| {
         let (of, path) = rest.split_once('.')?;
-        Some(format!("crates/{}/{}.antt", of.split('·').next()?, path.replace('.', "/")))
+        (of != "std").then(|| format!("crates/{of}/{}.antt", path.replace('.', "/")))
     });
     found.unwrap_or(module.to_string())
 }
 
-/// A part of a clause: a word, or what stands in brackets.
+/// A part of a clause: a word, or what stands in brackets. A projection of either is a group too, `f x` and `.part` of `(f x).part`.
 #[derive(Clone, Debug, PartialEq)]
 pub enum Term {
     Word(String),
@@ -243,8 +284,9 @@ pub struct Equation {
     pub right: Vec<Term>,
 }
 
-/// The result of a function, whatever a clause calls it.
+/// The result of a function, and what a clause calls it.
 pub const RESULT: &str = "the result";
+pub const RESULT_IN_CLAUSES: &str = "result";
 
 /// What a lent parameter holds afterwards.
 pub fn after(parameter: &str) -> Term {
@@ -258,43 +300,31 @@ pub struct Scope<'a> {
 }
 
 impl Scope<'_> {
-    /// The equations that a clause of the form `λ r. ⌜ .. ⌝` states, each name with what it stands for.
+    /// The equations that a clause states, one or several with `×` between them, each name with what it stands for.
     pub fn equations(&self, clause: &str) -> Result<Vec<Equation>, String> {
-        let wrong = || format!("`{}` is no equation, and no list of equations", short(clause));
-        let terms = terms(clause).ok_or_else(wrong)?;
-        let [lambda, Term::Word(binder), body @ ..] = &terms[..] else { return Err(wrong()) };
-        let binder = binder.strip_suffix('.').filter(|_| lambda.is("λ")).ok_or_else(wrong)?;
         let mut all = Vec::new();
-        for part in body.split(|term| term.is("∗")) {
-            // ⌜ and ⌝ are read as brackets of their own kind
-            let [Term::Word(mark), Term::Group(inner)] = part else { return Err(wrong()) };
-            if mark != "⌜" {
-                return Err(wrong());
-            }
-            self.conjunction(inner, binder, &mut all).ok_or_else(wrong)?;
-        }
+        let found = terms(clause).and_then(|terms| self.conjunction(&terms, &mut all));
+        found.ok_or_else(|| format!("`{}` is no equation, and no list of equations", short(clause)))?;
         Ok(all)
     }
 
-    /// The equation that a text states, `r` being the result.
+    /// The equation that a text states.
     pub fn equation(&self, text: &str) -> Result<Equation, String> {
-        let mut all = Vec::new();
-        let found = terms(text).and_then(|terms| self.conjunction(&terms, "r", &mut all));
-        match (found, &all[..]) {
-            (Some(()), [one]) => Ok(one.clone()),
+        match self.equations(text).as_deref() {
+            Ok([one]) => Ok(one.clone()),
             _ => Err(format!("`{}` is no equation", short(text))),
         }
     }
 
-    fn conjunction(&self, terms: &[Term], binder: &str, all: &mut Vec<Equation>) -> Option<()> {
+    fn conjunction(&self, terms: &[Term], all: &mut Vec<Equation>) -> Option<()> {
         if let [Term::Group(inner)] = terms {
-            return self.conjunction(inner, binder, all);
+            return self.conjunction(inner, all);
         }
         if terms.iter().any(|term| term.is("×")) {
-            return terms.split(|term| term.is("×")).try_for_each(|part| self.conjunction(part, binder, all));
+            return terms.split(|term| term.is("×")).try_for_each(|part| self.conjunction(part, all));
         }
         let mut sides = terms.split(|term| term.is("≡"));
-        let (left, right) = (self.plain(sides.next()?, binder), self.plain(sides.next()?, binder));
+        let (left, right) = (self.plain(sides.next()?), self.plain(sides.next()?));
         if sides.next().is_some() || left.is_empty() || right.is_empty() {
             return None;
         }
@@ -302,19 +332,17 @@ impl Scope<'_> {
         Some(())
     }
 
-    /// A term with its names resolved, and `now (x .entry)` as x, which is what a caller passes.
-    fn plain(&self, terms: &[Term], binder: &str) -> Vec<Term> {
+    /// A term with its names resolved, and `x.now` and `x.old` as x, which is what a caller passes.
+    fn plain(&self, terms: &[Term]) -> Vec<Term> {
         let mut out = Vec::new();
-        let mut rest = terms;
-        while let Some((term, more)) = rest.split_first() {
-            rest = more;
-            match (term, more.first()) {
-                (now, Some(Term::Group(inner))) if now.is("now") && self.moment(inner).is_some() => {
-                    out.extend(self.moment(inner));
-                    rest = &more[1..];
-                }
-                (Term::Word(word), _) => out.push(Term::Word(self.meaning(word, binder))),
-                (Term::Group(inner), _) => match &self.plain(inner, binder)[..] {
+        if let Some(one) = self.moment(terms) {
+            out.push(one);
+        }
+        let rest = if out.is_empty() { terms } else { &terms[2..] };
+        for term in rest {
+            match term {
+                Term::Word(word) => out.push(Term::Word(self.meaning(word))),
+                Term::Group(inner) => match &self.plain(inner)[..] {
                     [one] => out.push(one.clone()),
                     // f x in brackets, before anything else, needs none
                     many if out.is_empty() => out.extend_from_slice(many),
@@ -325,18 +353,19 @@ impl Scope<'_> {
         out
     }
 
-    fn moment(&self, inner: &[Term]) -> Option<Term> {
-        let [Term::Word(name), Term::Word(when)] = inner else { return None };
+    /// What terms begin with, where that is a parameter at a moment: a reference's is `.now`, and of a lent one `.old` and `.new`.
+    fn moment(&self, terms: &[Term]) -> Option<Term> {
+        let [Term::Word(name), Term::Word(when), ..] = terms else { return None };
         let one = self.parameters.iter().find(|parameter| parameter.name == *name)?;
         match (when.as_str(), one.way) {
-            (".entry", Way::Read | Way::Lent) => Some(Term::word(name)),
-            (".exit", Way::Lent) => Some(after(name)),
+            (".now", Way::Read) | (".old", Way::Lent) => Some(Term::word(name)),
+            (".new", Way::Lent) => Some(after(name)),
             _ => None,
         }
     }
 
-    fn meaning(&self, word: &str, binder: &str) -> String {
-        if word == binder {
+    fn meaning(&self, word: &str) -> String {
+        if word == RESULT_IN_CLAUSES {
             RESULT.to_string()
         } else if self.parameters.iter().any(|parameter| parameter.name == word) {
             word.to_string()
@@ -346,28 +375,32 @@ impl Scope<'_> {
     }
 }
 
-/// A clause's words and brackets.
+/// A clause's words and brackets. `∗`, `⌜` and `⌝` are no words of a plain clause.
 fn terms(text: &str) -> Option<Vec<Term>> {
     let mut open = vec![Vec::new()];
     let mut word = String::new();
+    // whether the word stands right behind a closing bracket
+    let mut tight = false;
     for c in text.chars().chain([' ']) {
-        if !c.is_whitespace() && !"()⌜⌝{}".contains(c) {
-            // the marks around a parameter's name
+        if !c.is_whitespace() && !"()∗⌜⌝{}".contains(c) {
+            // the marks around a name that is a word of the language too
             if !"«»".contains(c) {
                 word.push(c);
             }
             continue;
         }
         if !word.is_empty() {
-            open.last_mut()?.push(Term::Word(std::mem::take(&mut word)));
+            projected(&std::mem::take(&mut word), tight, open.last_mut()?)?;
         }
+        tight = c == ')';
         match c {
             '(' => open.push(Vec::new()),
-            '⌜' | '{' => {
+            '∗' | '⌜' | '⌝' => return None,
+            '{' => {
                 open.last_mut()?.push(Term::Word(c.to_string()));
                 open.push(Vec::new());
             }
-            ')' | '⌝' | '}' => {
+            ')' | '}' => {
                 let inner = open.pop()?;
                 open.last_mut()?.push(Term::Group(inner));
             }
@@ -376,6 +409,26 @@ fn terms(text: &str) -> Option<Vec<Term>> {
     }
     let whole = open.pop()?;
     open.is_empty().then_some(whole)
+}
+
+/// Adds a word to what is before it: `x.part` is a group of x and `.part`, and `.part` right behind a bracket is in that group.
+fn projected(word: &str, tight: bool, all: &mut Vec<Term>) -> Option<()> {
+    let (name, parts) = word.split_at(word.find('.').unwrap_or(word.len()));
+    let parts: Vec<&str> = parts.split('.').skip(1).collect();
+    // `λ x.` and a number have a dot of their own
+    if parts.iter().any(|part| part.is_empty()) || name.starts_with(|c: char| c.is_ascii_digit()) {
+        all.push(Term::word(word));
+        return Some(());
+    }
+    let parts = parts.iter().map(|part| Term::Word(format!(".{part}")));
+    match (name, all.last_mut()) {
+        ("", Some(Term::Group(inner))) if tight => inner.extend(parts),
+        // a part stands right behind what it is a part of
+        ("", _) => return None,
+        _ if parts.len() == 0 => all.push(Term::word(name)),
+        _ => all.push(Term::Group([Term::word(name)].into_iter().chain(parts).collect())),
+    }
+    Some(())
 }
 
 /// The first words of a text, for a message.

@@ -1,6 +1,6 @@
 //! Whether each theorem that the pages name says what docs/THEOREMS.md says.
 
-use crate::antt::{file, names, Declaration, File, Kind};
+use crate::antt::{beginnings, file, names, Declaration, File, Kind};
 use crate::quoted;
 use crate::rattle::short;
 use std::collections::{BTreeMap, BTreeSet};
@@ -71,13 +71,14 @@ pub fn check(page: &str, others: &[(String, String)], source: &dyn Fn(&str) -> O
     said
 }
 
-/// A name on a page that stands in a file of proofs, as `crates/line/proofs/Rejoin.antt#line`. In a Proof.antt stands that a function
-/// meets its contract, and the contract is held elsewhere.
+/// The files in which a function's own proof stands: that it meets its contract, and the contract is held elsewhere.
+const OWN: [&str; 3] = ["/Answers.antt", "/Invariants.antt", "/Proof.antt"];
+
+/// A name on a page that stands in a file of proofs, as `crates/line/proofs/Rejoin.antt#line`, but not in a function's own proof.
 fn is_theorem(name: &str) -> bool {
-    name.starts_with("crates/")
-        && name.contains("/proofs/")
-        && name.contains(".antt#")
-        && !name.contains("/Proof.antt#")
+    let Some((path, _)) = name.split_once('#') else { return false };
+    let proofs = path.strip_prefix("crates/").and_then(|path| path.split_once("/proofs/"));
+    proofs.is_some_and(|(_, file)| file.ends_with(".antt") && !OWN.iter().any(|own| file.ends_with(own)))
 }
 
 /// What the page states: in each block of antt a comment with a path, and below it declarations of that file.
@@ -143,9 +144,9 @@ fn hold(one: &Declaration, file: &File) -> Result<(), String> {
 /// kit makes those files.
 fn spoken(path: &str, one: &Declaration, file: &File) -> BTreeSet<String> {
     let texts = one.given.iter().chain([&one.statement]).chain(&one.equations);
-    let meant = texts.flat_map(|text| names(text)).filter(|name| *name != one.name).filter_map(|name| {
-        let own = || file.declarations.iter().any(|other| other.name == name).then(|| format!("{path}#{name}"));
-        file.meaning(name).or_else(own)
+    let meant = texts.flat_map(|text| names(text)).filter_map(|name| {
+        let own = |name| file.declarations.iter().any(|other| other.name == name).then(|| format!("{path}#{name}"));
+        beginnings(name).filter(|name| *name != one.name).find_map(|name| file.meaning(name).or_else(|| own(name)))
     });
     meant.filter(|meant| meant.starts_with("crates/") && !meant.contains("/specs/declared/")).collect()
 }

@@ -15,7 +15,7 @@ a definition with its equations, a record or a data type whole, each within the 
 the source's own, word by word; line ends, comments and `pub` do not count. What a statement speaks of must be stated on the page too, or be
 a definition of some crate's specs/ that the page's table lists, by file and name, as the source imports it. Every name of a file of proofs on README.md and the other pages of docs/, as
 `crates/line/proofs/Rejoin.antt#line`, must be stated there, and so must what a must-fail edit names in its line `shown:`; the proof that a
-function meets its contract, in a Proof.antt, need not.
+function meets its contract, in an Answers.antt, an Invariants.antt or a Proof.antt of its own folder, need not.
 
 Exit status: 0 all hold; 1 one does not, and is told; 2 bad usage.
 ";

@@ -15,11 +15,12 @@ times: the time that each crate and each step of the gate takes
 Exit status: 0 done; 1 a row is missing or too many; 2 bad usage.
 ";
 
+/// What the log tells of a crate. Not every kit tells how long a check took.
 #[derive(Default)]
 struct Crate {
-    proved: u64,
+    proved: Option<u64>,
     edits: u64,
-    edits_time: u64,
+    edits_time: Option<u64>,
     run: Option<u64>,
 }
 
@@ -60,13 +61,13 @@ fn print_tables(top: &Path, listed: &[String]) {
     let mut found: BTreeMap<&str, Crate> = listed.iter().map(|name| (name.as_str(), Crate::default())).collect();
     let log = read(&top.join("target/gate/ci.log"));
     for line in log.lines().filter_map(|line| line.strip_prefix("rt: ")) {
-        let Some(seconds) = seconds(line) else { continue };
+        let seconds = seconds(line);
         let words: Vec<&str> = line.split_whitespace().collect();
         match words[..] {
             ["must-fail", edit, ..] => {
                 if let Some(own) = edit.split('/').next().and_then(|name| found.get_mut(name)) {
                     own.edits += 1;
-                    own.edits_time += seconds;
+                    own.edits_time = own.edits_time.map_or(seconds, |time| Some(time + seconds.unwrap_or(0)));
                 }
             }
             [name, "proved", ..] => {
@@ -76,7 +77,7 @@ fn print_tables(top: &Path, listed: &[String]) {
             }
             [name, "ran" | "ran,", ..] => {
                 if let Some(own) = found.get_mut(name) {
-                    own.run = Some(seconds);
+                    own.run = seconds;
                 }
             }
             _ => {}
@@ -85,8 +86,11 @@ fn print_tables(top: &Path, listed: &[String]) {
     println!("| crate | proved in | must-fail edits | tried in | run in |\n|---|---|---|---|---|");
     for name in listed {
         let own = &found[name.as_str()];
-        let run = own.run.map_or("–".to_string(), |seconds| format!("{seconds} s"));
-        println!("| {name} | {} s | {} | {} s | {run} |", own.proved, own.edits, own.edits_time);
+        let [proved, tried, run] = [own.proved, own.edits_time, own.run].map(|time| match time {
+            Some(seconds) => format!("{seconds} s"),
+            None => "–".to_string(),
+        });
+        println!("| {name} | {proved} | {} | {tried} | {run} |", own.edits);
     }
     println!("\n| step of the gate | time |\n|---|---|");
     for line in read(&top.join("target/gate/steps")).lines() {

@@ -7,102 +7,112 @@ use crate::args::top;
 const SAMPLE: &str = "
 | operation | definition | contract | theorem |
 |---|---|---|---|
-| `halve` | `crates/half/specs/Half.antt#halved` | `r ≡ halved (pair a way) mem` | .. |
+| `halve` | `crates/half/specs/Half.antt#halved` | `result ≡ halved (pair a way) mem` | .. |
 
 | form | definition | contract |
 |---|---|---|
-| `halve_lent` | `crates/half/specs/Half.antt#halved` | `r ≡ told (halved way mem)`, `now (mem .exit) ≡ halved way mem .mem` |
-| `fill` | `crates/half/specs/Fill.antt#filled` | `r ≡ filled way out .status`, `now (out .exit) ≡ filled way out .out` |
-| `put` | `crates/half/specs/Fill.antt#spelt` | `r ≡ length (spelt way)`, `take r (now (out .exit)) ≡ spelt way` |
-| `rest` | `crates/half/specs/Rest.antt#resting` | `r ≡ resting` |
-| `new_mem` | `crates/half/specs/Rest.antt#newMem` | `r ≡ newMem` |
+| `halve_lent` | `crates/half/specs/Half.antt#halved` | `result ≡ told (halved way mem)`, `mem.new ≡ (halved way mem).mem` |
+| `fill` | `crates/half/specs/Fill.antt#filled` | `result ≡ (filled way out).status`, `out.new ≡ (filled way out).out` |
+| `put` | `crates/half/specs/Fill.antt#spelt` | `result ≡ length (spelt way)`, `take result out.new ≡ spelt way` |
+| `rest` | `crates/half/specs/Rest.antt#resting` | `result ≡ resting` |
+| `new_mem` | `crates/half/specs/Rest.antt#new_mem` | `result ≡ new_mem` |
 ";
 
 const OPERATIONS: &str = "
-ghost use mathlib.Core.Path.{_≡_};
-ghost use Rattle·half·specs.specs.Half.{halved, pair, told};
-ghost use lib.ListN.{length, take};
-ghost use Rattle·half·specs.specs.Fill.{filled, spelt};
-ghost use Rattle·half·specs.specs.Rest.{resting, newMem};
+ghost use Rattle.std.specs.Prelude.{◌≡◌};
+ghost use Rattle.half.specs.Half.{halved, pair, told};
+ghost use Rattle.std.specs.Prelude.{length, take};
+ghost use Rattle.half.specs.Fill.{filled, spelt};
+ghost use Rattle.half.specs.Rest.{resting, new_mem};
 
 impl Mem {
     pub fn new() -> Self
-        ensures { λ r. ⌜ r ≡ newMem ⌝ }
+        ensures { result ≡ new_mem }
     {
     }
 }
 
 pub fn halve(a: &[f32], way: u32, mem: Mem) -> Halved
-    ensures { λ r. ⌜ r ≡ halved (pair (now (a .entry)) way) mem ⌝ }
+    ensures { result ≡ halved (pair a.now way) mem }
 {
 }
 
 pub fn halve_lent(way: u32, mem: &mut Mem) -> Told
-    ensures { λ r. ⌜ (r ≡ told (halved way (now (mem .entry)))) × (now (mem .exit) ≡ halved way (now (mem .entry)) .mem) ⌝ }
+    ensures { (result ≡ told (halved way mem.old)) × (mem.new ≡ (halved way mem.old).mem) }
 {
 }
 
 pub fn fill(way: u32, out: &mut [f32]) -> u32
-    ensures status { λ r. ⌜ r ≡ filled way (now (out .entry)) .status ⌝ }
-    ensures out { λ r. ⌜ now (out .exit) ≡ filled way (now (out .entry)) .out ⌝ }
+    ensures status { result ≡ (filled way out.old).status }
+    ensures out { out.new ≡ (filled way out.old).out }
 {
 }
 
 pub fn put(way: u32, out: &mut [u8]) -> usize
-    ensures { λ r. ⌜ r ≡ length (spelt way) ⌝ }
-    ensures { λ r. ⌜ take r (now (out .exit)) ≡ spelt way ⌝ }
+    ensures long { result ≡ length (spelt way) }
+    ensures front { take result out.new ≡ spelt way }
 {
 }
 
 pub fn rest() -> [f32; 10]
-    ensures { λ r. ⌜ r ≡ resting ⌝ }
+    ensures { result ≡ resting }
 {
 }
 ";
 
-const DOORS: &str = r#"
-ghost use mathlib.Core.Path.{_≡_};
-ghost use Rattle·half.specs.Half.{halved, pair};
-ghost use Rattle·half.specs.Fill.{filled};
-ghost use Rattle·half.specs.Rest.{resting, newMem};
-ghost use Rattle·c_api·specs.specs.Lent.{lent, flag};
-ghost use Rattle·c_api·specs.specs.Memory.{memory};
-ghost use Rattle·c_api_frame.specs.Frame.{lags, factors};
+// `r` was the word for the result once, and is a buffer here
+const EXPORTS: &str = r#"
+ghost use Rattle.std.specs.Prelude.{◌≡◌};
+ghost use Rattle.half.specs.Half.{halved, pair};
+ghost use Rattle.half.specs.Fill.{filled};
+ghost use Rattle.half.specs.Rest.{resting, new_mem};
+ghost use Rattle.c_api.specs.Lent.{lent, flag};
+ghost use Rattle.c_api.specs.Memory.{memory};
+ghost use Rattle.c_api_frame.specs.Frame.{lags, factors};
 
-// r is a buffer here, and s the status
-#[no_mangle]
-pub extern "C" fn g7231_bare_halve(a: &[f32], way: u32, r: &mut [f32; 4], d_b: &mut [f32; 4], lag: &mut [u32; 4], factor: &mut [f32; 4], yes: &mut u32) -> u32
-    ensures status { λ s. ⌜ s ≡ halved (pair (now (a .entry)) way) (memory (now (r .entry)) (now («d_b» .entry))) .status ⌝ }
-    ensures low { λ s. ⌜ now (r .exit) ≡ lent s (now (r .entry)) (halved (pair (now (a .entry)) way) (memory (now (r .entry)) (now («d_b» .entry))) .mem .low) ⌝ }
-    ensures high { λ s. ⌜ now («d_b» .exit) ≡ lent s (now («d_b» .entry)) (halved (pair (now (a .entry)) way) (memory (now (r .entry)) (now («d_b» .entry))) .mem .high) ⌝ }
-    ensures lags { λ s. ⌜ now (lag .exit) ≡ lent s (now (lag .entry)) (lags (halved (pair (now (a .entry)) way) (memory (now (r .entry)) (now («d_b» .entry))) .settings)) ⌝ }
-    ensures factors { λ s. ⌜ now (factor .exit) ≡ lent s (now (factor .entry)) (factors (halved (pair (now (a .entry)) way) (memory (now (r .entry)) (now («d_b» .entry))) .settings)) ⌝ }
-    ensures told { λ s. ⌜ now (yes .exit) ≡ lent s (now (yes .entry)) (flag (halved (pair (now (a .entry)) way) (memory (now (r .entry)) (now («d_b» .entry))) .yes)) ⌝ }
+#[unsafe(no_mangle)]
+pub extern "C" fn g7231_bare_halve(a: &[f32], way: u32, r: &mut [f32; 4], data: &mut [f32; 4], lag: &mut [u32; 4], factor: &mut [f32; 4], yes: &mut u32) -> u32
+    ensures status { result ≡ (halved (pair a.now way) (memory r.old «data».old)).status }
+    ensures low { r.new ≡ lent result r.old (halved (pair a.now way) (memory r.old «data».old)).mem.low }
+    ensures high { «data».new ≡ lent result «data».old (halved (pair a.now way) (memory r.old «data».old)).mem.high }
+    ensures lags { lag.new ≡ lent result lag.old (lags (halved (pair a.now way) (memory r.old «data».old)).settings) }
+    ensures factors { factor.new ≡ lent result factor.old (factors (halved (pair a.now way) (memory r.old «data».old)).settings) }
+    ensures told { yes.new ≡ lent result yes.old (flag (halved (pair a.now way) (memory r.old «data».old)).yes) }
 {
+    half_doors::g7231_bare_halve(a, way, r, data, lag, factor, yes)
 }
 
 // its operation is lent the buffer itself
-#[no_mangle]
+#[unsafe(no_mangle)]
 pub extern "C" fn g7231_fill(way: u32, out: &mut [f32]) -> u32
-    ensures status { λ s. ⌜ s ≡ filled way (now (out .entry)) .status ⌝ }
-    ensures out { λ s. ⌜ now (out .exit) ≡ filled way (now (out .entry)) .out ⌝ }
+    ensures status { result ≡ (filled way out.old).status }
+    ensures out { out.new ≡ (filled way out.old).out }
 {
+    half_doors::g7231_fill(way, out)
 }
 
-#[no_mangle]
+#[unsafe(no_mangle)]
 pub extern "C" fn g7231_rest(set: &mut [f32; 10]) -> u32
-    ensures status { λ r. ⌜ r ≡ 0 ⌝ }
-    ensures lines { λ r. ⌜ now (set .exit) ≡ resting ⌝ }
+    ensures status { result ≡ 0 }
+    ensures lines { set.new ≡ resting }
 {
+    half_doors::g7231_rest(set)
 }
 
-#[no_mangle]
+#[unsafe(no_mangle)]
 pub extern "C" fn g7231_bare_new_mem(low: &mut [f32; 4]) -> u32
-    ensures status { λ s. ⌜ s ≡ 0 ⌝ }
-    ensures lines { λ s. ⌜ now (low .exit) ≡ newMem .low ⌝ }
+    ensures done { result ≡ 0 }
+    ensures lines { low.new ≡ new_mem.low }
 {
+    half_doors::g7231_bare_new_mem(low)
 }
 "#;
+
+/// The library of the same doors: its functions are not exported, and do what they promise themselves.
+fn library() -> String {
+    let plain = EXPORTS.replace("#[unsafe(no_mangle)]\npub extern \"C\" fn", "pub fn");
+    plain.lines().filter(|line| !line.contains("half_doors::")).map(|line| format!("{line}\n")).collect()
+}
 
 const TABLE: &str = r#"
     Door {
@@ -110,7 +120,7 @@ const TABLE: &str = r#"
         parameters: &[
             Parameter { name: "a", way: Way::Read, element: Element::F32, many: Many::Slice(4), role: "speech" },
             Parameter { name: "r", way: Way::Kept, element: Element::F32, many: Many::Fixed(4), role: "speech" },
-            Parameter { name: "d_b", way: Way::Kept, element: Element::F32, many: Many::Fixed(4), role: "speech" },
+            Parameter { name: "data", way: Way::Kept, element: Element::F32, many: Many::Fixed(4), role: "speech" },
             Parameter { name: "lag", way: Way::Made, element: Element::U32, many: Many::Fixed(4), role: "" },
             Parameter { name: "factor", way: Way::Made, element: Element::F32, many: Many::Fixed(4), role: "" },
             Parameter { name: "yes", way: Way::Made, element: Element::U32, many: Many::One, role: "" },
@@ -148,8 +158,12 @@ const TABLE: &str = r#"
     },
 "#;
 
-fn faults(page: &str, table: &str, operations: &str, doors: &str) -> Vec<String> {
-    faults_in(page, table, &[("crates/half/src/lib.rt", operations), ("crates/c_api/src/lib.rt", doors)])
+const HALF: &str = "crates/half/src/lib.rt";
+const C_API: &str = "crates/c_api/src/lib.rt";
+const C_API_C: &str = "crates/c_api_c/src/lib.rt";
+
+fn faults(page: &str, table: &str, operations: &str, library: &str, exports: &str) -> Vec<String> {
+    faults_in(page, table, &[(HALF, operations), (C_API, library), (C_API_C, exports)])
 }
 
 fn faults_in(page: &str, table: &str, texts: &[(&str, &str)]) -> Vec<String> {
@@ -157,33 +171,68 @@ fn faults_in(page: &str, table: &str, texts: &[(&str, &str)]) -> Vec<String> {
     check(page, table, &texts.collect()).faults
 }
 
-/// Alters one place of one of the texts, and looks for words in what is then said.
+/// Alters one place of one of the texts, and looks for words in what is then said. A fault of an export is looked for in the library of doors
+/// too, where it is named as the library's.
 fn found(text: &str, old: &str, new: &str, words: &str) {
     let with = altering(text, old, new);
-    let said = faults(&with(SAMPLE), &with(TABLE), &with(OPERATIONS), &with(DOORS));
-    assert!(said.iter().any(|fault| fault.contains(words)), "{old} -> {new}: {said:?}");
+    let library = library();
+    let told = |said: Vec<String>, words: &str| {
+        assert!(said.iter().any(|fault| fault.contains(words)), "{old} -> {new}: {said:?}");
+    };
+    told(faults(&with(SAMPLE), &with(TABLE), &with(OPERATIONS), &library, &with(EXPORTS)), words);
+    if text == EXPORTS {
+        let words = match words.split_once(':') {
+            Some((name, what)) => format!("{name} in its library:{what}"),
+            None => words.to_string(),
+        };
+        told(faults(SAMPLE, TABLE, OPERATIONS, &altering(&library, old, new)(&library), EXPORTS), &words);
+    }
 }
 
 #[test]
 fn the_sample_holds() {
-    assert_eq!(faults(SAMPLE, TABLE, OPERATIONS, DOORS), [""; 0]);
+    assert_eq!(faults(SAMPLE, TABLE, OPERATIONS, &library(), EXPORTS), [""; 0]);
 }
 
 #[test]
 fn doors_stand_in_any_crate_named_for_it() {
-    let (half, one, other) = ("crates/half/src/lib.rt", "crates/c_api/src/lib.rt", "crates/c_api_frame/src/lib.rt");
-    let said = |texts: &[(&str, &str)]| faults_in(SAMPLE, TABLE, texts);
-    assert_eq!(said(&[(half, OPERATIONS), (other, DOORS)]), [""; 0]);
-    let twice = said(&[(half, OPERATIONS), (one, DOORS), (other, DOORS)]);
-    assert!(twice.iter().any(|fault| fault.contains("there are 2 public functions")), "{twice:?}");
-    let elsewhere = said(&[(half, OPERATIONS), ("crates/more_c_api/src/lib.rt", DOORS)]);
-    assert!(elsewhere.iter().any(|fault| fault.contains("there are 0 public functions")), "{elsewhere:?}");
+    let (library, frame, frame_c) = (&library(), "crates/c_api_frame/src/lib.rt", "crates/c_api_frame_c/src/lib.rt");
+    let said = |texts: &[(&str, &str)]| faults_in(SAMPLE, TABLE, &[&[(HALF, OPERATIONS)], texts].concat());
+    let told =
+        |said: Vec<String>, words: &str| assert!(said.iter().any(|fault| fault.contains(words)), "{words}: {said:?}");
+    assert_eq!(said(&[(frame, library), (frame_c, EXPORTS)]), [""; 0]);
+    assert_eq!(said(&[(C_API, library), (frame_c, EXPORTS)]), [""; 0]);
+    let twice = "g7231_fill: there are 2 public functions";
+    told(said(&[(C_API, library), (C_API_C, EXPORTS), (frame_c, EXPORTS)]), twice);
+    let twice = "g7231_fill in its library: there are 2 public functions";
+    told(said(&[(C_API, library), (frame, library), (C_API_C, EXPORTS)]), twice);
+    let (none, none_in) =
+        ("g7231_fill: there are 0 public functions", "g7231_fill in its library: there are 0 public functions");
+    told(said(&[(C_API, library), ("crates/more_c_api_c/src/lib.rt", EXPORTS)]), none);
+    told(said(&[("crates/more_c_api/src/lib.rt", library), (C_API_C, EXPORTS)]), none_in);
+    // what the library exports stands in no crate of exports, and the other way round
+    told(said(&[(C_API, EXPORTS)]), none);
+    told(said(&[(C_API_C, EXPORTS)]), none_in);
+}
+
+#[test]
+fn a_door_that_c_cannot_call() {
+    let head = |mark: &str| format!("{mark}g7231_fill(");
+    let plain = |old: &str, new: &str| {
+        let exports = altering(EXPORTS, &head(old), &head(new))(EXPORTS);
+        let said = faults(SAMPLE, TABLE, OPERATIONS, &library(), &exports);
+        assert_eq!(said, ["g7231_fill: C cannot call it by its name"], "{new}");
+    };
+    plain("#[unsafe(no_mangle)]\npub extern \"C\" fn ", "pub fn ");
+    plain("#[unsafe(no_mangle)]\npub extern \"C\" fn ", "pub extern \"C\" fn ");
+    plain("pub extern \"C\" fn ", "pub fn ");
 }
 
 #[test]
 fn a_program_has_no_operations() {
-    let (half, doors) = (("crates/half/src/lib.rt", OPERATIONS), ("crates/c_api/src/lib.rt", DOORS));
-    let said = |more: &[(&str, &str)]| faults_in(SAMPLE, TABLE, &[&[half, doors], more].concat());
+    let library = library();
+    let three = [(HALF, OPERATIONS), (C_API, library.as_str()), (C_API_C, EXPORTS)];
+    let said = |more: &[(&str, &str)]| faults_in(SAMPLE, TABLE, &[&three, more].concat());
     let same = "pub fn halve(a: u32) -> bool {\n}\n";
     assert_eq!(said(&[("crates/play/src/main.rt", ""), ("crates/play/src/more.rt", same)]), [""; 0]);
     let library = said(&[("crates/play/src/lib.rt", ""), ("crates/play/src/more.rt", same)]);
@@ -192,54 +241,79 @@ fn a_program_has_no_operations() {
 
 #[test]
 fn an_operation_that_says_less() {
-    let is = "r ≡ halved (pair (now (a .entry)) way) mem";
-    let whole = format!("    ensures {{ λ r. ⌜ {is} ⌝ }}\n");
+    let is = "result ≡ halved (pair a.now way) mem";
+    let whole = format!("    ensures {{ {is} }}\n");
     found(OPERATIONS, &whole, "", "halve: it ensures nothing");
-    found(OPERATIONS, &format!("⌜ {is} ⌝"), "⊤ₛ", "halve: `λ r. ⊤ₛ` is no equation");
+    found(OPERATIONS, is, "Unit {0}", "halve: `Unit {0}` is no equation");
     found(
         OPERATIONS,
         is,
-        "r .status ≡ halved (pair (now (a .entry)) way) mem .status",
+        "result.status ≡ (halved (pair a.now way) mem).status",
         "halve: it ensures nothing of the result",
     );
-    found(OPERATIONS, is, "r ≡ r", "halve: by its contract the result is `the result`");
+    found(OPERATIONS, is, "result ≡ result", "halve: by its contract the result is `the result`");
     found(
         OPERATIONS,
         is,
-        "r ≡ halved (pair (now (a .entry)) 0) mem",
+        "result ≡ halved (pair a.now 0) mem",
         "halve: by its contract the result is `halved (pair a 0) mem`",
     );
-    for weaker in [format!("way ≡ 0 → {is}"), format!("(way ≡ 0) → ({is})"), format!("(r ≡ r) ∨ ({is})")] {
+    for weaker in [format!("way ≡ 0 → {is}"), format!("(way ≡ 0) → ({is})"), format!("(result ≡ result) ⊎ ({is})")]
+    {
         found(OPERATIONS, is, &weaker, "halve: ");
     }
-    for more in ["ensures { λ r. ⌜ way ≡ way ⌝ }", "assumes { ⌜ way ≡ way ⌝ }", "ensures { λ r. ⌜ r ≡ r ⌝ }"]
-    {
+    for more in ["ensures more { way ≡ way }", "assumes { way ≡ way }", "ensures more { result ≡ result }"] {
         found(OPERATIONS, &whole, &format!("{whole}    {more}\n"), "halve: ");
     }
-    let second = " × (now (mem .exit) ≡ halved way (now (mem .entry)) .mem)";
+    // clauses of the kinds that hold more than a fact
+    for (other, words) in [
+        (format!("    ensures* {{ ⌜ {is} ⌝ }}\n"), "ensures*` is not understood"),
+        (format!("    ensures {{ ⌜ {is} ⌝ }}\n"), "` is no equation"),
+        (format!("    ensures {{ let other = mem in {is} }}\n"), "halve: it ensures nothing of the result"),
+        (format!("    ensures {{ (mem : Mem) → {is} }}\n"), "halve: it ensures nothing of the result"),
+    ] {
+        found(OPERATIONS, &whole, &other, words);
+    }
+    let second = " × (mem.new ≡ (halved way mem.old).mem)";
     found(OPERATIONS, second, "", "halve_lent: it ensures nothing of mem afterwards");
-    found(
-        OPERATIONS,
-        "(now (mem .entry)) .mem",
-        "(now (mem .exit)) .mem",
-        "halve_lent: by its contract mem afterwards is",
-    );
+    found(OPERATIONS, "mem.old).mem", "mem.new).mem", "halve_lent: by its contract mem afterwards is");
+    // another part, a part of a part, and a part that does not stand behind its whole
+    for part in [").out", ").mem.mem"] {
+        found(OPERATIONS, "mem.old).mem", &format!("mem.old{part}"), "halve_lent: by its contract mem afterwards is");
+    }
+    found(OPERATIONS, "mem.old).mem", "mem.old.mem)", "halve_lent: by its contract mem afterwards is");
+    found(OPERATIONS, "mem.old).mem", "mem.old) .mem", "is no equation");
     found(OPERATIONS, "pub fn halve_lent", "fn halve_lent", "halve_lent: there are 0 public functions");
     found(OPERATIONS, "impl Mem", "impl Other", "new_mem: there are 0 public functions");
 }
 
 #[test]
 fn a_condition() {
-    for clause in ["requires { ⌜ way ≡ 0 ⌝ }", "requires named { ⌜ way ≡ 0 ⌝ }", "ghost { ℕ }"] {
+    for clause in ["requires { way ≡ 0 }", "requires named { way ≡ 0 }", "ghost top: { ℕ }"] {
         let before = |head: &str| format!("{head}    {clause}\n");
         found(OPERATIONS, "-> Halved\n", &before("-> Halved\n"), "halve: it has a clause");
         found(
-            DOORS,
+            EXPORTS,
             "yes: &mut u32) -> u32\n",
             &before("yes: &mut u32) -> u32\n"),
             "g7231_bare_halve: it has a clause",
         );
-        found(DOORS, ".mem .low) ⌝ }\n", &before(".mem .low) ⌝ }\n"), "g7231_bare_halve: it has a clause");
+        found(EXPORTS, ".mem.low }\n", &before(".mem.low }\n"), "g7231_bare_halve: it has a clause");
+    }
+}
+
+#[test]
+fn an_open_type() {
+    let open = "halve: it leaves a type open";
+    found(OPERATIONS, "fn halve(", "fn halve<W: Wait>(", open);
+    found(OPERATIONS, "fn halve(", "fn halve<F: Fn(u32) -> u32>(", open);
+    found(OPERATIONS, "fn halve(", "fn halve(w: &impl Wait, ", open);
+    found(OPERATIONS, "-> Halved\n", "-> Halved\nwhere\n    Mem: Wait,\n", open);
+    found(EXPORTS, "fn g7231_fill(", "fn g7231_fill<W: Wait>(", "g7231_fill: it leaves a type open");
+    // which others may, since nobody's contract is on the page
+    let more = |head: &str| format!("{OPERATIONS}\n{head}\n    ensures {{ result ≡ way }}\n{{\n}}\n");
+    for head in ["fn most<T: Ord>(way: T) -> T", "pub fn most<T>(way: T) -> T\nwhere\n    T: Ord,\n"] {
+        assert_eq!(faults(SAMPLE, TABLE, &more(head), &library(), EXPORTS), [""; 0], "{head}");
     }
 }
 
@@ -250,65 +324,69 @@ fn another_definition() {
     found(OPERATIONS, "{halved, pair", "{quartered as halved, pair", "crates/half/specs/Half.antt#quartered");
     found(
         OPERATIONS,
-        "mathlib.Core.Path",
-        "Rattle·half·specs.specs.Half",
-        "imports _≡_ from crates/half/specs/Half.antt",
+        "Rattle.std.specs.Prelude.{◌≡◌}",
+        "Rattle.half.specs.Half.{◌≡◌}",
+        "imports ◌≡◌ from crates/half/specs/Half.antt",
     );
-    let inner = "Half.{halved, told};\nghost use Rattle·half·specs.specs.inner.Half.{pair}";
+    let also = |what: &str| format!("Prelude.{{◌≡◌, {what}}}");
+    found(OPERATIONS, "Prelude.{◌≡◌}", &also("◌≡◌ as ◌×◌"), "imports ◌×◌ from Rattle.std.specs.Prelude");
+    found(OPERATIONS, "Prelude.{◌≡◌}", &also("zero as result"), "imports result from Rattle.std.specs.Prelude");
+    let inner = "Half.{halved, told};\nghost use Rattle.half.specs.inner.Half.{pair}";
     found(OPERATIONS, "Half.{halved, pair, told}", inner, "which no reader has read");
     found(OPERATIONS, "halve(a: &[f32]", "halve(halved: Mem, a: &[f32]", "halve: ");
-    found(DOORS, "Rattle·half.specs.Half", "Rattle·half.specs.Other", "g7231_bare_halve: its status is");
-    found(DOORS, "Rattle·c_api·specs.specs.Lent", "Rattle·half.specs.Half", "g7231_bare_halve: d_b afterwards");
-    found(DOORS, "Rattle·c_api·specs.specs.Memory", "Rattle·half.specs.Half", "g7231_bare_halve: its status is");
-    found(DOORS, "now (set .exit) ≡ resting", "now (set .exit) ≡ halved", "g7231_rest: set afterwards");
+    found(OPERATIONS, "halve(a: &[f32]", "halve(result: Mem, a: &[f32]", "halve: a parameter is named result");
+    found(EXPORTS, "Rattle.half.specs.Half", "Rattle.half.specs.Other", "g7231_bare_halve: its status is");
+    found(EXPORTS, "Rattle.c_api.specs.Lent", "Rattle.half.specs.Half", "g7231_bare_halve: data afterwards");
+    found(EXPORTS, "Rattle.c_api.specs.Memory", "Rattle.half.specs.Half", "g7231_bare_halve: its status is");
+    found(EXPORTS, "set.new ≡ resting", "set.new ≡ halved", "g7231_rest: set afterwards");
 }
 
 #[test]
 fn a_door_that_says_less() {
-    for line in DOORS.lines().filter(|line| line.contains("ensures")) {
-        found(DOORS, &format!("{line}\n"), "", ": it ensures nothing of ");
-        let (head, _) = line.split_once('⌜').unwrap();
-        found(DOORS, line, &format!("{head}⊤ₛ }}"), "is no equation");
+    for line in EXPORTS.lines().filter(|line| line.contains("ensures")) {
+        found(EXPORTS, &format!("{line}\n"), "", ": it ensures nothing of ");
+        let (head, _) = line.split_once('{').unwrap();
+        found(EXPORTS, line, &format!("{head}{{ Unit }}"), "is no equation");
     }
-    found(DOORS, "r ≡ 0", "r ≡ r", "g7231_rest: its status is");
-    found(DOORS, " .yes)) ⌝", " .status)) ⌝", "g7231_bare_halve: yes afterwards");
-    found(DOORS, ".mem .high)", ".mem .low)", "g7231_bare_halve: r afterwards is what another buffer holds");
-    found(DOORS, "(factors (", "(lags (", "g7231_bare_halve: lag afterwards is what another buffer holds");
-    found(DOORS, "(factors (", "(memory (", "g7231_bare_halve: factor afterwards");
-    found(DOORS, "≡ newMem .low", "≡ newMem .status", "g7231_bare_new_mem: low afterwards");
-    found(DOORS, "lent s (now (r .entry))", "lent 0 (now (r .entry))", "g7231_bare_halve: r afterwards");
-    found(DOORS, "lent s (now (r .entry))", "lent s (now (r .exit))", "g7231_bare_halve: r afterwards");
-    found(DOORS, "(now («d_b» .entry))) .status", "(now (r .entry))) .status", "g7231_bare_halve: ");
+    found(EXPORTS, "status { result ≡ 0 }", "status { result ≡ result }", "g7231_rest: its status is");
+    found(EXPORTS, ").yes) }", ").status) }", "g7231_bare_halve: yes afterwards");
+    found(EXPORTS, ".mem.high }", ".mem.low }", "g7231_bare_halve: r afterwards is what another buffer holds");
+    found(EXPORTS, "(factors (", "(lags (", "g7231_bare_halve: lag afterwards is what another buffer holds");
+    found(EXPORTS, "(factors (", "(memory (", "g7231_bare_halve: factor afterwards");
+    found(EXPORTS, "≡ new_mem.low", "≡ new_mem.status", "g7231_bare_new_mem: low afterwards");
+    found(EXPORTS, "lent result r.old", "lent 0 r.old", "g7231_bare_halve: r afterwards");
+    found(EXPORTS, "lent result r.old", "lent result r.new", "g7231_bare_halve: r afterwards");
+    found(EXPORTS, "«data».old)).status", "r.old)).status", "g7231_bare_halve: ");
 }
 
 #[test]
 fn a_door_of_an_operation_that_is_lent_the_buffer() {
-    let of = |s: &str, part: &str| format!("{s} ≡ filled way (now (out .entry)) {part}");
-    let says = |old: String, new: String, words: &str| found(DOORS, &old, &new, words);
-    says(of("s", ".status"), of("s", ".out"), "g7231_fill: its status is");
-    says(of("s", ".status"), "s ≡ 0".into(), "g7231_fill: its status is");
-    let held = "now (out .exit)";
+    let of = |s: &str, part: &str| format!("{s} ≡ (filled way out.old){part}");
+    let says = |old: String, new: String, words: &str| found(EXPORTS, &old, &new, words);
+    says(of("result", ".status"), of("result", ".out"), "g7231_fill: its status is");
+    says(of("result", ".status"), "result ≡ 0".into(), "g7231_fill: its status is");
+    let held = "out.new";
     says(of(held, ".out"), of(held, ".status"), "g7231_fill: out afterwards is");
-    says(of(held, ".out"), format!("{held} ≡ now (out .entry)"), "g7231_fill: out afterwards is");
-    let line = format!("    ensures out {{ λ s. ⌜ {} ⌝ }}\n", of(held, ".out"));
+    says(of(held, ".out"), format!("{held} ≡ out.old"), "g7231_fill: out afterwards is");
+    let line = format!("    ensures out {{ {} }}\n", of(held, ".out"));
     says(line, String::new(), "g7231_fill: it ensures nothing of out afterwards");
 }
 
 #[test]
 fn the_front_of_a_buffer() {
-    let front = "    ensures { λ r. ⌜ take r (now (out .exit)) ≡ spelt way ⌝ }\n";
+    let front = "    ensures front { take result out.new ≡ spelt way }\n";
     found(OPERATIONS, front, "", "put: it ensures nothing of take the result out afterwards");
-    found(OPERATIONS, "take r (now (out .exit))", "take way (now (out .exit))", "put: it ensures nothing of take the result");
-    found(OPERATIONS, "r ≡ length (spelt way)", "r ≡ length (spelt r)", "put: by its contract the result is");
-    found(SAMPLE, ", `take r (now (out .exit)) ≡ spelt way`", "", "put: docs/TRUST.md has no equation for out afterwards");
+    found(OPERATIONS, "take result out.new", "take way out.new", "put: it ensures nothing of take the result");
+    found(OPERATIONS, "length (spelt way)", "length (spelt result)", "put: by its contract the result is");
+    found(SAMPLE, ", `take result out.new ≡ spelt way`", "", "put: docs/TRUST.md has no equation for out afterwards");
 }
 
 #[test]
 fn what_the_page_or_the_header_leaves_out() {
     let row = SAMPLE.lines().find(|line| line.starts_with("| `halve`")).unwrap();
     found(SAMPLE, row, "", "g7231_bare_halve: docs/TRUST.md has no row");
-    found(SAMPLE, "`r ≡ halved (pair a way) mem`", "", "halve: docs/TRUST.md has no equation for the result");
-    found(SAMPLE, ", `now (mem .exit) ≡ halved way mem .mem`", "", "halve_lent: docs/TRUST.md has no equation for mem");
+    found(SAMPLE, "`result ≡ halved (pair a way) mem`", "", "halve: docs/TRUST.md has no equation for the result");
+    found(SAMPLE, ", `mem.new ≡ (halved way mem).mem`", "", "halve_lent: docs/TRUST.md has no equation for mem");
     found(TABLE, "refusals: &[1, 5]", "refusals: &[]", "g7231_bare_halve: its status is");
     found(
         TABLE,

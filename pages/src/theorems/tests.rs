@@ -17,8 +17,10 @@ record Near (x : ℕ) : Type 0 where
 abbrev Both : ℕ → Type 0
 Both n = Near n × Even n
 
+first : (n : ℕ) → best.found ≡ whole.least.found → (halved n) ≡ 4
+
 module _ (n : ℕ) (h : n < 8) where
-  halved-near : (k : ℕ) → k < n →
+  halved_near : (k : ℕ) → k < n →
       Near (halved k)
 
 -- crates/half/proofs/Even.antt
@@ -35,15 +37,19 @@ both : (n : ℕ) → n ≡ 4 → Both (halved n)
 
 | file | names |
 |---|---|
+| `crates/half/specs/Best.antt` | `best` |
 | `crates/half/specs/Even.antt` | `even` |
 | `crates/half/specs/Half.antt` | `halved` |
+| `crates/half/specs/Whole.antt` | `least` |
 ";
 
 const HALVED: &str = "
 -- Halves. Assumes nothing.
-use mathlib.Core.Path.{_≡_, refl}
-use Rattle·half·specs.specs.Half.{halved}
-use Rattle·half·proofs.proofs.Even.{Even, even-half}
+use Rattle.std.specs.Prelude.{◌≡◌, refl}
+use Rattle.half.specs.Half.{halved}
+use Rattle.half.proofs.Even.{Even, even_half}
+use Rattle.half.specs.Best.{best}
+use Rattle.half.specs.Whole as whole
 
 pub record Near (x : ℕ) : Type 0 where
   pub within : x ≤ 4
@@ -55,23 +61,26 @@ helper : (n : ℕ) → n ≡ n
 helper n = refl
 
 module _ (n : ℕ) (h : n < 8) where
-  pub halved-near : (k : ℕ) → k < n → Near (halved k)
+  pub halved_near : (k : ℕ) → k < n → Near (halved k)
   unfolding halved
-  halved-near k l = record { within = omega arith }
+  halved_near k l = record { within = omega arith }
 
 pub both : (n : ℕ) → n ≡ 4 → Both (halved n)
-both n e = (halved-near 8 n, even-half n)
+both n e = (halved_near 8 n, even_half n)
+
+pub first : (n : ℕ) → best.found ≡ whole.least.found → (halved n) ≡ 4
+first n e = omega arith
 ";
 
 const EVEN: &str = "
-use lib.Dec.{T}
-use Rattle·half·specs.specs.Even.{even}
+use Rattle.std.specs.Prelude.{T}
+use Rattle.half.specs.Even.{even}
 
 abbrev pub Even : ℕ → Type 0
 Even n = T (even n)
 
-pub even-half : (n : ℕ) → Even n
-even-half n = tt
+pub even_half : (n : ℕ) → Even n
+even_half n = tt
 ";
 
 const OTHER: &str = "named: `crates/half/proofs/Halved.antt#both`, and a file, `crates/half/proofs/Even.antt`.";
@@ -101,9 +110,9 @@ fn the_sample_holds() {
 fn a_theorem_that_says_less() {
     found(HALVED, "pub both : (n : ℕ) →", "pub both : (n : ℕ) → n ≡ 0 →", "#both: it says");
     found(HALVED, "n ≡ 4 → Both (halved n)", "n ≡ 4 → Both (halved n) ⊎ Unit", "#both: it says");
-    found(HALVED, "k < n → Near (halved k)", "k < n → Near (halved k) × Unit", "#halved-near: it says");
-    found(HALVED, "(h : n < 8)", "(h : n < 4)", "#halved-near: it takes for granted");
-    found(HALVED, "module _ (n : ℕ)", "module _ (e : ⊥) (n : ℕ)", "#halved-near: it takes for granted");
+    found(HALVED, "k < n → Near (halved k)", "k < n → Near (halved k) × Unit", "#halved_near: it says");
+    found(HALVED, "(h : n < 8)", "(h : n < 4)", "#halved_near: it takes for granted");
+    found(HALVED, "module _ (n : ℕ)", "module _ (e : ⊥) (n : ℕ)", "#halved_near: it takes for granted");
 }
 
 #[test]
@@ -114,25 +123,30 @@ fn what_it_speaks_of() {
     // the same word with another meaning
     found(
         HALVED,
-        "half·specs.specs.Half.{halved}",
-        "half·specs.specs.Other.{halved}",
+        "half.specs.Half.{halved}",
+        "half.specs.Other.{halved}",
         "#both: it speaks of crates/half/specs/Other.antt#halved",
     );
     found(SAMPLE, "| `crates/half/specs/Half.antt` | `halved` |\n", "", "#both: it speaks of");
     found(SAMPLE, "| `even` |", "| `even`, `odd` |", "no statement speaks of it");
-    found(HALVED, "half·specs.specs.Half.{halved}", "half·proofs.proofs.Even.{halved}", "#both: it speaks of");
+    // by a field of it
     found(
-        HALVED,
-        "use Rattle·half·specs.specs.Half.{halved}\n",
-        "halved : ℕ → ℕ\nhalved n = n\n",
-        "#both: it speaks of",
+        SAMPLE,
+        "| `crates/half/specs/Best.antt` | `best` |\n",
+        "",
+        "#first: it speaks of crates/half/specs/Best.antt#best",
     );
-    found(HALVED, "half·proofs.proofs.Even.{Even,", "half·proofs.proofs.Odd.{Even,", "#Both: it speaks of");
+    found(SAMPLE, "| `least` |", "| `most` |", "#first: it speaks of crates/half/specs/Whole.antt#least");
+    found(HALVED, "specs.Best.{best}", "specs.Half.{best}", "#first: it speaks of crates/half/specs/Half.antt#best");
+    found(HALVED, "specs.Whole as", "specs.Best as", "#first: it speaks of crates/half/specs/Best.antt#least");
+    found(HALVED, "half.specs.Half.{halved}", "half.proofs.Even.{halved}", "#both: it speaks of");
+    found(HALVED, "use Rattle.half.specs.Half.{halved}\n", "halved : ℕ → ℕ\nhalved n = n\n", "#both: it speaks of");
+    found(HALVED, "half.proofs.Even.{Even,", "half.proofs.Odd.{Even,", "#Both: it speaks of");
 }
 
 #[test]
 fn what_is_gone() {
-    found(HALVED, "both n e = (halved-near 8 n, even-half n)\n", "", "#both: it has no proof");
+    found(HALVED, "both n e = (halved_near 8 n, even_half n)\n", "", "#both: it has no proof");
     found(HALVED, "pub both :", "pub other :", "#both: it is declared 0 times");
     found(HALVED, "abbrev pub Both :", "pub Both :", "#Both: it is a Theorem in the source");
     found(SAMPLE, "both : (n : ℕ) → n ≡ 4 → Both (halved n)\n", "", "nothing is stated under");
@@ -148,8 +162,22 @@ fn what_is_gone() {
         "\n\n```antt\nrecord",
         "does not begin with a path",
     );
-    found(OTHER, "#both", "#halved-far", "docs/OTHER.md names crates/half/proofs/Halved.antt#halved-far");
+    found(OTHER, "#both", "#halved_far", "docs/OTHER.md names crates/half/proofs/Halved.antt#halved_far");
     assert_eq!(faults("", HALVED, EVEN, "").len(), 1);
+}
+
+#[test]
+fn a_function_that_meets_its_contract() {
+    let named = |path: &str| faults(SAMPLE, HALVED, EVEN, &format!("`crates/half/proofs/{path}#returns`"));
+    for own in ["halve/Answers.antt", "halve/Invariants.antt", "Mem/new/Answers.antt", "halve/Proof.antt"] {
+        assert_eq!(named(own), [""; 0], "{own}");
+    }
+    for other in ["Answers.antt", "halve/Turns.antt", "halve/MoreAnswers.antt"] {
+        assert_eq!(
+            named(other),
+            [format!("docs/OTHER.md names crates/half/proofs/{other}#returns, which {PAGE} does not state")]
+        );
+    }
 }
 
 /// Every theorem of the page, weakened in its source by a hypothesis that nobody has.
