@@ -132,6 +132,7 @@ fn last_145(speech: &[f32]) -> [f32; 145]
 }
 
 // The voice of a frame: weighting, pitch and shaping.
+#[inline(never)]
 pub fn voice_of(
     x_mem: [f32; 10],
     f_mem: [f32; 10],
