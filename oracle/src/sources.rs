@@ -1,9 +1,9 @@
-//! Reads constants out of Rattle sources.
+//! Reads constants and statics out of Rattle sources.
 
 use std::fs;
 use std::path::{Path, PathBuf};
 
-/// A `const NAME: [T; N] = [..];` of whole numbers.
+/// A `const NAME: [T; N] = [..];` of whole numbers, or a `static` of that form.
 pub struct Table {
     pub name: String,
     pub numbers: Vec<i64>,
@@ -29,8 +29,8 @@ fn tables_in(text: &str) -> Result<Vec<Table>, String> {
     let plain: String = text.lines().map(|line| line.split("//").next().unwrap_or("")).collect::<Vec<_>>().join("\n");
     let mut found = Vec::new();
     let mut rest = plain.as_str();
-    while let Some(at) = rest.find("const ") {
-        rest = &rest[at + 6..];
+    while let Some(end) = ["const ", "static "].iter().filter_map(|word| Some(rest.find(word)? + word.len())).min() {
+        rest = &rest[end..];
         let Some((name, after)) = rest.split_once(':') else { continue };
         let Some((kind, value)) = after.split_once('=') else { continue };
         let (Some(kind), Some(value)) = (kind.trim().strip_prefix('['), value.trim_start().strip_prefix('[')) else {

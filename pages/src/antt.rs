@@ -88,7 +88,7 @@ fn block(lines: &[Line], given: &[String], all: &mut File) -> Result<(), String>
         let computes = head.text.split(' ').take_while(|word| MARKS.contains(word)).any(|word| word != "pub");
         match words[..] {
             ["use", ..] => imports(&whole, &mut all.imports)?,
-            ["mod" | "infix" | "infixl" | "infixr" | "unfolding", ..] => {}
+            ["mod" | "infix" | "infixl" | "infixr" | "unfolding" | "ruleset", ..] => {}
             ["module", ..] => {
                 let ends = item.iter().position(|line| line.text == "where" || line.text.ends_with(" where"));
                 let ends = ends.ok_or_else(|| format!("`{}` has no `where`", head.text))?;

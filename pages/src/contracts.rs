@@ -249,6 +249,23 @@ fn ensured(function: &Function, scope: &Scope) -> Result<Vec<Equation>, String> 
     Ok(all)
 }
 
+/// Whether the left side of an equation is the answer: `result`, or what a definition of specs/ makes of it beside parameters, as
+/// `as_lines result` and `as_frame coder result`, where the code answers a `Result` and the definition a status with values.
+fn is_answer(left: &[Term], function: &Function) -> bool {
+    let given = |term: &Term| function.parameters.iter().any(|parameter| term.is(&parameter.name));
+    match left {
+        [result] => result.is(RESULT),
+        [Term::Word(view), beside @ .., result] => {
+            result.is(RESULT)
+                && view.starts_with("crates/")
+                && view.contains('#')
+                && to_be_read(view)
+                && beside.iter().all(given)
+        }
+        _ => false,
+    }
+}
+
 /// The first places of a lent buffer, as many as the answer says: all that an operation tells of where it puts so much and no more.
 fn front(parameter: &str) -> Vec<Term> {
     vec![Term::word("Rattle.std.specs.Prelude#take"), Term::word(RESULT), after(parameter)]
@@ -263,7 +280,8 @@ fn operation<'a>(row: &Row, sources: &'a [Source]) -> Result<Operation<'a>, Stri
         wanted.push(scope.equation(text).map_err(|what| format!("{PAGE}: {what}"))?);
     }
     // the page itself may not leave out the answer or a lent parameter, nor speak of something else
-    let mut sides = vec![vec![Term::word(RESULT)]];
+    let answer = wanted.iter().find(|one| is_answer(&one.left, function));
+    let mut sides = vec![answer.map_or(vec![Term::word(RESULT)], |one| one.left.clone())];
     let lent = function.parameters.iter().filter(|parameter| parameter.way == Way::Lent);
     sides.extend(lent.map(|parameter| {
         let front = front(&parameter.name);

@@ -154,8 +154,13 @@ fn clause_word(head: &str) -> Option<(&str, &str, &str)> {
 fn is_result(text: &str, first: bool) -> bool {
     let text = text.trim();
     let Some(kind) = text.strip_prefix("->").filter(|_| first) else { return text.is_empty() };
-    let kind = kind.trim().trim_start_matches('&').trim_start_matches("mut ");
-    parts(kind, ' ').len() == 1
+    let kind = kind.trim().trim_start_matches('&');
+    // a lifetime may stand first
+    let kind = match kind.split_once(' ') {
+        Some((lifetime, rest)) if lifetime.starts_with('\'') => rest.trim_start(),
+        _ => kind,
+    };
+    parts(kind.trim_start_matches("mut "), ' ').len() == 1
 }
 
 /// The place of the bracket that closes the first one.

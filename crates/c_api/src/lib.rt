@@ -22,48 +22,82 @@ ghost use Rattle.combined.specs.Memory.{new_memory};
 ghost use Rattle.combined.specs.Cascade.{settings};
 ghost use Rattle.combined.specs.Run.{run_combined};
 ghost use Rattle.impulse.specs.Impulse.{impulse_response};
-ghost use Rattle.c_api.specs.Lent.{lent, flag};
+ghost use Rattle.float.specs.Answered.{status_of};
+ghost use Rattle.c_api.specs.Lent.{lent, part, flag};
 ghost use Rattle.c_api.specs.Memory.{memory};
 ghost use Rattle.spec_lsp.specs.Resting.{resting};
+
+use combined::{Combined, CombinedMem};
+use float::status::Refusal;
+use lpc::LpcSet;
+use spec_lsp::quantise::Quantised;
+use stability::Stabilised;
+use weighting::{Weighted, WeightingTaps};
+
+// What a door makes of an answer that fills one buffer: the status, and in the buffer the value, or what it held.
+pub fn store<T: Copy>(answer: Result<T, Refusal>, buffer: &mut T) -> u32
+    ensures status { result ≡ status_of answer }
+    ensures buffer { buffer.new ≡ part (λ value. value) buffer.old answer }
+{
+    match answer {
+        Ok(value) => {
+            *buffer = value;
+            0
+        }
+        Err(refusal) => refusal.number(),
+    }
+}
+
+// The same of a quantiser's answer, which fills two.
+pub fn store_quantised(
+    quantised: Result<Quantised, Refusal>,
+    index: &mut u32,
+    set: &mut [f32; 10],
+) -> u32
+    ensures status { result ≡ status_of quantised }
+    ensures index { index.new ≡ part (λ sent. sent.index) index.old quantised }
+    ensures set { set.new ≡ part (λ sent. sent.set) set.old quantised }
+{
+    match quantised {
+        Ok(answer) => {
+            let Quantised {
+                index: sent,
+                set: lines,
+            } = answer;
+            *index = sent;
+            *set = lines;
+            0
+        }
+        Err(refusal) => refusal.number(),
+    }
+}
 
 // It has no bare form: a whole number as a single is exact in every mode.
 pub fn g7231_resting_set(set: &mut [f32; 10]) -> u32
     ensures status { result ≡ 0 }
     ensures lines { set.new ≡ resting }
 {
-    let lines = spec_lsp::resting::resting_set();
-    *set = lines;
+    *set = spec_lsp::resting::resting_set();
     0
 }
 
+#[tactic(auto, using(crate::proofs::Lent::fills))]
 pub fn g7231_bare_lsp_cosines_to_freq(cosines: &[f32; 10], freq: &mut [f32; 10]) -> u32
     ensures status { result ≡ (cosines_to_freq cosines.now).status }
     ensures buffer { freq.new ≡ lent result freq.old (cosines_to_freq cosines.now).lines }
 {
-    let given = *cosines;
-    let answer = convert::lsp_cosines_to_freq(given);
-    let status = answer.status;
-    if status == 0 {
-        let lines = answer.lines;
-        *freq = lines;
-    }
-    status
+    store(convert::lsp_cosines_to_freq(*cosines), freq)
 }
 
+#[tactic(auto, using(crate::proofs::Lent::fills))]
 pub fn g7231_bare_lsp_freq_to_cosines(freq: &[f32; 10], cosines: &mut [f32; 10]) -> u32
     ensures status { result ≡ (freq_to_cosines freq.now).status }
     ensures buffer { cosines.new ≡ lent result cosines.old (freq_to_cosines freq.now).lines }
 {
-    let given = *freq;
-    let answer = convert::lsp_freq_to_cosines(given);
-    let status = answer.status;
-    if status == 0 {
-        let lines = answer.lines;
-        *cosines = lines;
-    }
-    status
+    store(convert::lsp_freq_to_cosines(*freq), cosines)
 }
 
+#[tactic(auto, unfolding(lpc::specs::Analysis::refused_set))]
 pub fn g7231_bare_lpc_analysis(
     window: &[f32],
     a: &mut [f32; 11],
@@ -75,17 +109,20 @@ pub fn g7231_bare_lpc_analysis(
     ensures sums { r.new ≡ lent result r.old (lpc_analysis window.now).set.r }
     ensures reflection { k2.new ≡ lent result k2.old (lpc_analysis window.now).set.k2 }
 {
-    let answer = lpc::lpc_analysis(window);
-    let status = answer.status;
-    if status == 0 {
-        let set = answer.set;
-        let coefficients = set.a;
-        let sums = set.r;
-        *a = coefficients;
-        *r = sums;
-        *k2 = set.k2;
+    match lpc::lpc_analysis(window) {
+        Ok(set) => {
+            let LpcSet {
+                a: coefficients,
+                r: sums,
+                k2: reflection,
+            } = set;
+            *a = coefficients;
+            *r = sums;
+            *k2 = reflection;
+            0
+        }
+        Err(refusal) => refusal.number(),
     }
-    status
 }
 
 pub fn g7231_bare_enforce_lsp_stability(
@@ -98,15 +135,18 @@ pub fn g7231_bare_enforce_lsp_stability(
     ensures lines { out.new ≡ lent result out.old (enforced cosines.now spacing_hz).cosines }
     ensures told { converged.new ≡ lent result converged.old (flag (enforced cosines.now spacing_hz).converged) }
 {
-    let given = *cosines;
-    let answer = stability::enforce_lsp_stability(given, spacing_hz);
-    let status = answer.status;
-    if status == 0 {
-        let lines = answer.cosines;
-        *out = lines;
-        *converged = answer.converged as u32;
+    match stability::enforce_lsp_stability(*cosines, spacing_hz) {
+        Ok(answer) => {
+            let Stabilised {
+                cosines: lines,
+                converged: told,
+            } = answer;
+            *out = lines;
+            *converged = u32::from(told);
+            0
+        }
+        Err(refusal) => refusal.number(),
     }
-    status
 }
 
 pub fn g7231_bare_weighting_taps(a: &[f32; 11], wz: &mut [f32; 10], wp: &mut [f32; 10]) -> u32
@@ -114,16 +154,18 @@ pub fn g7231_bare_weighting_taps(a: &[f32; 11], wz: &mut [f32; 10], wp: &mut [f3
     ensures zeros { wz.new ≡ lent result wz.old (weighting_taps a.now).wz }
     ensures poles { wp.new ≡ lent result wp.old (weighting_taps a.now).wp }
 {
-    let given = *a;
-    let answer = weighting::weighting_taps(given);
-    let status = answer.status;
-    if status == 0 {
-        let zeros = answer.wz;
-        let poles = answer.wp;
-        *wz = zeros;
-        *wp = poles;
+    match weighting::weighting_taps(*a) {
+        Ok(taps) => {
+            let WeightingTaps {
+                wz: zeros,
+                wp: poles,
+            } = taps;
+            *wz = zeros;
+            *wp = poles;
+            0
+        }
+        Err(refusal) => refusal.number(),
     }
-    status
 }
 
 pub fn g7231_bare_weight_subframe(
@@ -139,49 +181,39 @@ pub fn g7231_bare_weight_subframe(
     ensures outputs { f_mem.new ≡ lent result f_mem.old (weight_subframe x.now wz.now wp.now x_mem.old f_mem.old).f_mem }
     ensures samples { out.new ≡ lent result out.old (weight_subframe x.now wz.now wp.now x_mem.old f_mem.old).out }
 {
-    let zeros = *wz;
-    let poles = *wp;
-    let past_in = *x_mem;
-    let past_out = *f_mem;
-    let answer = weighting::weight_subframe(x, zeros, poles, past_in, past_out);
-    let status = answer.status;
-    if status == 0 {
-        let inputs = answer.x_mem;
-        let outputs = answer.f_mem;
-        let samples = answer.out;
-        *x_mem = inputs;
-        *f_mem = outputs;
-        *out = samples;
+    match weighting::weight_subframe(x, *wz, *wp, *x_mem, *f_mem) {
+        Ok(answer) => {
+            let Weighted {
+                out: samples,
+                x_mem: inputs,
+                f_mem: outputs,
+            } = answer;
+            *x_mem = inputs;
+            *f_mem = outputs;
+            *out = samples;
+            0
+        }
+        Err(refusal) => refusal.number(),
     }
-    status
 }
 
+#[tactic(auto, using(crate::proofs::Lent::fills))]
 pub fn g7231_bare_open_loop_pitch(limit: u32, wbuf: &[f32], half: usize, lag: &mut u32) -> u32
     ensures status { result ≡ (open_loop_pitch limit wbuf.now half).status }
     ensures lag { lag.new ≡ lent result lag.old (open_loop_pitch limit wbuf.now half).lag }
 {
-    let answer = pitch::open_loop_pitch(limit, wbuf, half);
-    let status = answer.status;
-    if status == 0 {
-        *lag = answer.lag;
-    }
-    status
+    store(pitch::open_loop_pitch(limit, wbuf, half), lag)
 }
 
+#[tactic(auto, using(crate::proofs::Lent::fills))]
 pub fn g7231_bare_lpc_to_lsp(a: &[f32; 11], lsp: &mut [f32; 10]) -> u32
     ensures status { result ≡ (lpc_to_lsp a.now).status }
     ensures lines { lsp.new ≡ lent result lsp.old (lpc_to_lsp a.now).lines }
 {
-    let given = *a;
-    let answer = lsp::lpc_to_lsp(given);
-    let status = answer.status;
-    if status == 0 {
-        let lines = answer.lines;
-        *lsp = lines;
-    }
-    status
+    store(lsp::lpc_to_lsp(*a), lsp)
 }
 
+#[tactic(auto, using(crate::proofs::Lent::fills))]
 pub fn g7231_bare_interpolate_lsp(
     choice: usize,
     prev: &[f32; 10],
@@ -191,31 +223,18 @@ pub fn g7231_bare_interpolate_lsp(
     ensures status { result ≡ (interpolate_lsp choice prev.now cur.now).status }
     ensures lines { out.new ≡ lent result out.old (interpolate_lsp choice prev.now cur.now).lines }
 {
-    let last = *prev;
-    let this = *cur;
-    let answer = lsp_filter::interpolate_lsp(choice, last, this);
-    let status = answer.status;
-    if status == 0 {
-        let lines = answer.lines;
-        *out = lines;
-    }
-    status
+    store(lsp_filter::interpolate_lsp(choice, *prev, *cur), out)
 }
 
+#[tactic(auto, using(crate::proofs::Lent::fills))]
 pub fn g7231_bare_lsp_to_lpc(lsp: &[f32; 10], a: &mut [f32; 11]) -> u32
     ensures status { result ≡ (lsp_to_lpc lsp.now).status }
     ensures coefficients { a.new ≡ lent result a.old (lsp_to_lpc lsp.now).a }
 {
-    let given = *lsp;
-    let answer = lsp_filter::lsp_to_lpc(given);
-    let status = answer.status;
-    if status == 0 {
-        let coefficients = answer.a;
-        *a = coefficients;
-    }
-    status
+    store(lsp_filter::lsp_to_lpc(*lsp), a)
 }
 
+#[tactic(auto, unfolding(pitch::specs::Shaping::refused_shaping))]
 pub fn g7231_bare_harmonic_noise_shaping(
     limit: u32,
     wbuf: &[f32],
@@ -228,16 +247,17 @@ pub fn g7231_bare_harmonic_noise_shaping(
     ensures lag { lag.new ≡ lent result lag.old (harmonic_noise_shaping limit wbuf.now place l_ol).params.lag }
     ensures factor { beta.new ≡ lent result beta.old (harmonic_noise_shaping limit wbuf.now place l_ol).params.beta }
 {
-    let answer = pitch::harmonic_noise_shaping(limit, wbuf, place, l_ol);
-    let status = answer.status;
-    if status == 0 {
-        let params = answer.params;
-        *lag = params.lag;
-        *beta = params.beta;
+    match pitch::harmonic_noise_shaping(limit, wbuf, place, l_ol) {
+        Ok(params) => {
+            *lag = params.lag;
+            *beta = params.beta;
+            0
+        }
+        Err(refusal) => refusal.number(),
     }
-    status
 }
 
+#[tactic(auto, using(crate::proofs::Lent::fills))]
 pub fn g7231_bare_quantise_lsp_freq(
     p: &[f32; 10],
     prev: &[f32; 10],
@@ -248,52 +268,31 @@ pub fn g7231_bare_quantise_lsp_freq(
     ensures index { index.new ≡ lent result index.old (quantise_lsp_freq lsp_rows p.now prev.now).index }
     ensures lines { set.new ≡ lent result set.old (quantise_lsp_freq lsp_rows p.now prev.now).set }
 {
-    let given = *p;
-    let last = *prev;
-    let answer = spec_lsp::quantise::quantise_lsp_freq(given, last);
-    let status = answer.status;
-    if status == 0 {
-        let lines = answer.set;
-        *index = answer.index;
-        *set = lines;
-    }
-    status
+    store_quantised(spec_lsp::quantise::quantise_lsp_freq(*p, *prev), index, set)
 }
 
+#[tactic(auto, using(crate::proofs::Lent::fills))]
 pub fn g7231_bare_decode_lsp_freq(index: u32, prev: &[f32; 10], set: &mut [f32; 10]) -> u32
     ensures status { result ≡ (decode_lsp_freq lsp_rows index prev.now).status }
     ensures lines { set.new ≡ lent result set.old (decode_lsp_freq lsp_rows index prev.now).lines }
 {
-    let last = *prev;
-    let answer = spec_lsp::decode::decode_lsp_freq(index, last);
-    let status = answer.status;
-    if status == 0 {
-        let lines = answer.lines;
-        *set = lines;
-    }
-    status
+    store(spec_lsp::decode::decode_lsp_freq(index, *prev), set)
 }
 
 // Neither has a bare form: bytes and words are the same in every mode.
+#[tactic(auto, using(crate::proofs::Lent::fills))]
 pub fn g7231_split_lsp_index(index: u32, bands: &mut [u8; 3]) -> u32
     ensures status { result ≡ (split index).status }
     ensures rows { bands.new ≡ lent result bands.old (split index).bands }
 {
-    let answer = lsp_index::split_lsp_index(index);
-    let status = answer.status;
-    if status == 0 {
-        let three = answer.bands;
-        *bands = three;
-    }
-    status
+    store(lsp_index::split_lsp_index(index), bands)
 }
 
 pub fn g7231_combine_lsp_index(bands: &[u8; 3], index: &mut u32) -> u32
     ensures status { result ≡ 0 }
     ensures index { index.new ≡ combine bands.now }
 {
-    let three = *bands;
-    *index = lsp_index::combine_lsp_index(three);
+    *index = lsp_index::combine_lsp_index(*bands);
     0
 }
 
@@ -313,21 +312,24 @@ pub fn g7231_bare_new_filter_memory(
     ensures poles { wp_mem.new ≡ lent result wp_mem.old (new_memory limit).mem.wp }
     ensures history { p_hist.new ≡ lent result p_hist.old (new_memory limit).mem.p_hist }
 {
-    let answer = combined::CombinedMem::new(limit);
-    let status = answer.status;
-    if status == 0 {
-        let made = answer.mem;
-        let made_syn = made.syn;
-        let made_wz = made.wz;
-        let made_wp = made.wp;
-        let made_hist = made.p_hist;
-        *lag_limit = made.limit;
-        *syn = made_syn;
-        *wz_mem = made_wz;
-        *wp_mem = made_wp;
-        *p_hist = made_hist;
+    match CombinedMem::new(limit) {
+        Ok(made) => {
+            let CombinedMem {
+                syn: outputs,
+                wz: zeros,
+                wp: poles,
+                p_hist: history,
+                limit: known,
+            } = made;
+            *lag_limit = known;
+            *syn = outputs;
+            *wz_mem = zeros;
+            *wp_mem = poles;
+            *p_hist = history;
+            0
+        }
+        Err(refusal) => refusal.number(),
     }
-    status
 }
 
 pub fn g7231_bare_run_combined(
@@ -351,39 +353,35 @@ pub fn g7231_bare_run_combined(
     ensures history { p_hist.new ≡ lent result p_hist.old (run_combined (settings aq.now wz.now wp.now lag beta) input.now (memory lag_limit syn.old wz_mem.old wp_mem.old p_hist.old)).mem.p_hist }
     ensures samples { out.new ≡ lent result out.old (run_combined (settings aq.now wz.now wp.now lag beta) input.now (memory lag_limit syn.old wz_mem.old wp_mem.old p_hist.old)).out }
 {
-    let mem_syn = *syn;
-    let mem_wz = *wz_mem;
-    let mem_wp = *wp_mem;
-    let mem_hist = *p_hist;
-    let mem = combined::CombinedMem {
-        syn: mem_syn,
-        wz: mem_wz,
-        wp: mem_wp,
-        p_hist: mem_hist,
+    let mem = CombinedMem {
+        syn: *syn,
+        wz: *wz_mem,
+        wp: *wp_mem,
+        p_hist: *p_hist,
         limit: lag_limit,
     };
-    let x = *input;
-    let a = *aq;
-    let zeros = *wz;
-    let poles = *wp;
-    let answer = combined::run_combined(mem, x, a, zeros, poles, lag, beta);
-    let status = answer.status;
-    if status == 0 {
-        let after = answer.mem;
-        let samples = answer.out;
-        let after_syn = after.syn;
-        let after_wz = after.wz;
-        let after_wp = after.wp;
-        let after_hist = after.p_hist;
-        *syn = after_syn;
-        *wz_mem = after_wz;
-        *wp_mem = after_wp;
-        *p_hist = after_hist;
-        *out = samples;
+    match combined::run_combined(mem, *input, *aq, *wz, *wp, lag, beta) {
+        Ok(answer) => {
+            let Combined { out: samples, mem } = answer;
+            let CombinedMem {
+                syn: outputs,
+                wz: zeros,
+                wp: poles,
+                p_hist: history,
+                ..
+            } = mem;
+            *syn = outputs;
+            *wz_mem = zeros;
+            *wp_mem = poles;
+            *p_hist = history;
+            *out = samples;
+            0
+        }
+        Err(refusal) => refusal.number(),
     }
-    status
 }
 
+#[tactic(auto, using(crate::proofs::Lent::fills))]
 pub fn g7231_bare_combined_impulse_response(
     limit: u32,
     aq: &[f32; 11],
@@ -396,14 +394,8 @@ pub fn g7231_bare_combined_impulse_response(
     ensures status { result ≡ (impulse_response limit (settings aq.now wz.now wp.now lag beta)).status }
     ensures samples { out.new ≡ lent result out.old (impulse_response limit (settings aq.now wz.now wp.now lag beta)).out }
 {
-    let a = *aq;
-    let zeros = *wz;
-    let poles = *wp;
-    let answer = impulse::combined_impulse_response(limit, a, zeros, poles, lag, beta);
-    let status = answer.status;
-    if status == 0 {
-        let samples = answer.out;
-        *out = samples;
-    }
-    status
+    store(
+        impulse::combined_impulse_response(limit, *aq, *wz, *wp, lag, beta),
+        out,
+    )
 }

@@ -5,13 +5,14 @@
 
 ghost use Rattle.std.specs.Prelude.{◌≡◌};
 ghost use Rattle.spec_tables.specs.Codebook.{lsp_rows};
-ghost use Rattle.c_api.specs.Lent.{lent};
+ghost use Rattle.float.specs.Answered.{status_of};
+ghost use Rattle.c_api.specs.Lent.{lent, part};
 ghost use Rattle.frame.specs.Coder.{new_coder};
 ghost use Rattle.frame.specs.Frame.{code_frame};
 ghost use Rattle.c_api_frame.specs.Frame.{coder_of, lags, factors};
 
+use float::status::Refusal;
 use frame::{Coder, Frame};
-use pitch::HnsParams;
 
 pub fn g7231_bare_new_coder(
     set: &mut [f32; 10],
@@ -27,39 +28,19 @@ pub fn g7231_bare_new_coder(
     ensures outputs { f_mem.new ≡ new_coder.f_mem }
     ensures speech { weighted.new ≡ new_coder.weighted }
 {
-    let coder = frame::Coder::new();
-    let new_set = coder.set;
-    let new_lines = coder.lines;
-    let new_in = coder.x_mem;
-    let new_out = coder.f_mem;
-    let new_speech = coder.weighted;
+    let Coder {
+        set: new_set,
+        lines: new_lines,
+        x_mem: new_in,
+        f_mem: new_out,
+        weighted: new_speech,
+    } = Coder::new();
     *set = new_set;
     *lines = new_lines;
     *x_mem = new_in;
     *f_mem = new_out;
     *weighted = new_speech;
     0
-}
-
-// The lags of four settings, and their factors.
-fn lags_of(settings: [HnsParams; 4]) -> [u32; 4]
-    ensures { result ≡ lags settings }
-{
-    let mut out = [0u32; 4];
-    for i in 0..4 {
-        out[i] = settings[i].lag;
-    }
-    out
-}
-
-fn factors_of(settings: [HnsParams; 4]) -> [f32; 4]
-    ensures { result ≡ factors settings }
-{
-    let mut out = [0.0f32; 4];
-    for i in 0..4 {
-        out[i] = settings[i].beta;
-    }
-    out
 }
 
 // A coder as a caller lends it, five buffers.
@@ -72,23 +53,18 @@ pub fn coder_from(
 ) -> Coder
     ensures { result ≡ coder_of set.now lines.now x_mem.now f_mem.now weighted.now }
 {
-    let last_set = *set;
-    let last_lines = *lines;
-    let past_in = *x_mem;
-    let past_out = *f_mem;
-    let past = *weighted;
     Coder {
-        set: last_set,
-        lines: last_lines,
-        x_mem: past_in,
-        f_mem: past_out,
-        weighted: past,
+        set: *set,
+        lines: *lines,
+        x_mem: *x_mem,
+        f_mem: *f_mem,
+        weighted: *weighted,
     }
 }
 
 // What a door makes of a frame: where it is done each buffer takes its part, and else holds what it held.
 pub fn store_frame(
-    answer: Frame,
+    answer: Result<Frame, Refusal>,
     set: &mut [f32; 10],
     lines: &mut [f32; 10],
     x_mem: &mut [f32; 10],
@@ -100,43 +76,48 @@ pub fn store_frame(
     factor: &mut [f32; 4],
     a: &mut [f32; 44],
 ) -> u32
-    ensures status { result ≡ answer.status }
-    ensures decoded { set.new ≡ lent result set.old answer.coder.set }
-    ensures lines { lines.new ≡ lent result lines.old answer.coder.lines }
-    ensures inputs { x_mem.new ≡ lent result x_mem.old answer.coder.x_mem }
-    ensures outputs { f_mem.new ≡ lent result f_mem.old answer.coder.f_mem }
-    ensures speech { weighted.new ≡ lent result weighted.old answer.coder.weighted }
-    ensures index { index.new ≡ lent result index.old answer.index }
-    ensures pitch { pitch.new ≡ lent result pitch.old answer.pitch }
-    ensures lags { lag.new ≡ lent result lag.old (lags answer.shaping) }
-    ensures factors { factor.new ≡ lent result factor.old (factors answer.shaping) }
-    ensures filters { a.new ≡ lent result a.old answer.a }
+    ensures status { result ≡ status_of answer }
+    ensures decoded { set.new ≡ part (λ frame. frame.coder.set) set.old answer }
+    ensures lines { lines.new ≡ part (λ frame. frame.coder.lines) lines.old answer }
+    ensures inputs { x_mem.new ≡ part (λ frame. frame.coder.x_mem) x_mem.old answer }
+    ensures outputs { f_mem.new ≡ part (λ frame. frame.coder.f_mem) f_mem.old answer }
+    ensures speech { weighted.new ≡ part (λ frame. frame.coder.weighted) weighted.old answer }
+    ensures index { index.new ≡ part (λ frame. frame.index) index.old answer }
+    ensures pitch { pitch.new ≡ part (λ frame. frame.pitch) pitch.old answer }
+    ensures lags { lag.new ≡ part (λ frame. lags frame.shaping) lag.old answer }
+    ensures factors { factor.new ≡ part (λ frame. factors frame.shaping) factor.old answer }
+    ensures filters { a.new ≡ part (λ frame. frame.a) a.old answer }
 {
-    let refusal = answer.status;
-    if refusal == 0 {
-        let after = answer.coder;
-        let after_set = after.set;
-        let after_lines = after.lines;
-        let after_in = after.x_mem;
-        let after_out = after.f_mem;
-        let after_speech = after.weighted;
-        let halves = answer.pitch;
-        let shaping = answer.shaping;
-        let filters = answer.a;
-        *set = after_set;
-        *lines = after_lines;
-        *x_mem = after_in;
-        *f_mem = after_out;
-        *weighted = after_speech;
-        *index = answer.index;
-        *pitch = halves;
-        let lags = lags_of(shaping);
-        let factors = factors_of(shaping);
-        *lag = lags;
-        *factor = factors;
-        *a = filters;
+    match answer {
+        Ok(frame) => {
+            let Frame {
+                index: sent,
+                pitch: halves,
+                shaping,
+                a: filters,
+                coder,
+            } = frame;
+            let Coder {
+                set: after_set,
+                lines: after_lines,
+                x_mem: after_in,
+                f_mem: after_out,
+                weighted: after_speech,
+            } = coder;
+            *set = after_set;
+            *lines = after_lines;
+            *x_mem = after_in;
+            *f_mem = after_out;
+            *weighted = after_speech;
+            *index = sent;
+            *pitch = halves;
+            *lag = shaping.map(|s| s.lag);
+            *factor = shaping.map(|s| s.beta);
+            *a = filters;
+            0
+        }
+        Err(refusal) => refusal.number(),
     }
-    refusal
 }
 
 pub fn g7231_bare_code_frame(

@@ -1,5 +1,5 @@
-// The doors of code rows of a caller's own, in a crate and an object file of their own: over lent rows the stages are compiled once more, and no
-// other door's code moves. crates/c_api says what a door is.
+// The doors of code rows of a caller's own, in a crate and an object file of their own: over lent rows the stages are compiled once more,
+// and no other door's code moves. crates/c_api says what a door is.
 #![tactic(auto)]
 
 ghost use Rattle.std.specs.Prelude.{◌≡◌};
@@ -13,7 +13,10 @@ pub fn g7231_load_rows(file: &[u8], rows: &mut [i16]) -> u32
     ensures status { result ≡ (load file.now rows.old).status }
     ensures rows { rows.new ≡ (load file.now rows.old).rows }
 {
-    row_file::load_rows(file, rows)
+    match row_file::load_rows(file, rows) {
+        Ok(()) => 0,
+        Err(refusal) => refusal.number(),
+    }
 }
 
 pub fn g7231_row(rows: &[i16], band: u32, index: u32, start: &mut usize, count: &mut usize) -> u32
@@ -21,15 +24,17 @@ pub fn g7231_row(rows: &[i16], band: u32, index: u32, start: &mut usize, count: 
     ensures start { start.new ≡ lent result start.old (row_place rows.now band index).start }
     ensures count { count.new ≡ lent result count.old (row_place rows.now band index).count }
 {
-    let answer = own_rows::row(rows, band, index);
-    let status = answer.status;
-    if status == 0 {
-        *start = answer.start;
-        *count = answer.count;
+    match own_rows::row(rows, band, index) {
+        Ok(place) => {
+            *start = place.start;
+            *count = place.count;
+            0
+        }
+        Err(refusal) => refusal.number(),
     }
-    status
 }
 
+#[tactic(auto, using(c_api::proofs::Lent::fills))]
 pub fn g7231_bare_quantise_lsp_freq_in(
     rows: &[i16],
     p: &[f32; 10],
@@ -41,18 +46,10 @@ pub fn g7231_bare_quantise_lsp_freq_in(
     ensures index { index.new ≡ lent result index.old (quantise_in rows.now p.now prev.now).index }
     ensures set { set.new ≡ lent result set.old (quantise_in rows.now p.now prev.now).set }
 {
-    let given = *p;
-    let before = *prev;
-    let answer = own_rows::quantise_lsp_freq_in(rows, given, before);
-    let status = answer.status;
-    if status == 0 {
-        let lines = answer.set;
-        *index = answer.index;
-        *set = lines;
-    }
-    status
+    c_api::store_quantised(own_rows::quantise_lsp_freq_in(rows, *p, *prev), index, set)
 }
 
+#[tactic(auto, using(c_api::proofs::Lent::fills))]
 pub fn g7231_bare_decode_lsp_freq_in(
     rows: &[i16],
     index: u32,
@@ -62,14 +59,7 @@ pub fn g7231_bare_decode_lsp_freq_in(
     ensures status { result ≡ (decode_in rows.now index prev.now).status }
     ensures set { set.new ≡ lent result set.old (decode_in rows.now index prev.now).lines }
 {
-    let before = *prev;
-    let answer = own_rows::decode_lsp_freq_in(rows, index, before);
-    let status = answer.status;
-    if status == 0 {
-        let lines = answer.lines;
-        *set = lines;
-    }
-    status
+    c_api::store(own_rows::decode_lsp_freq_in(rows, index, *prev), set)
 }
 
 pub fn g7231_bare_code_frame_in(

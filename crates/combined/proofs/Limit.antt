@@ -15,10 +15,9 @@ use Rattle.lag_limit.specs.Limit.{known, reach}
 use Rattle.lag_limit.proofs.Known.{known_within}
 use Rattle.harmonic_history.specs.History.{places, last}
 use Rattle.combined.specs.declared.CombinedMem.{CombinedMem}
-use Rattle.combined.specs.declared.Combined.{Combined}
 use Rattle.combined.specs.Memory.{history, spare, Alike}
 use Rattle.combined.specs.Cascade.{Settings, cascaded}
-use Rattle.combined.specs.Run.{after, done, refusal, wild, combined_refusals, run_combined}
+use Rattle.combined.specs.Run.{Combined, after, done, refusal, wild, combined_refusals, run_combined}
 use Rattle.combined.proofs.History.{harmonic_length}
 
 module _ (q : Settings) (input : List Float) (mem : CombinedMem) where

@@ -18,13 +18,12 @@ use Rattle.weighting.specs.Filter.{weighted, later}
 use Rattle.weighting.specs.inner.Delay.{behind}
 use Rattle.weighting.proofs.Delay.{behind_set, behind_more}
 use Rattle.combined.specs.declared.CombinedMem.{CombinedMem}
-use Rattle.combined.specs.declared.Combined.{Combined}
 use Rattle.lag_limit.specs.Limit.{reach}
 use Rattle.harmonic_history.specs.History.{places}
 use Rattle.combined.specs.Memory.{history, spare}
 use Rattle.combined.specs.Cascade.{Settings, Cascade, synthesised, sample, start, cascaded}
 use Rattle.combined.specs.inner.Step.{Arrays, synthetic, formant, begun, ended, sampled}
-use Rattle.combined.specs.Run.{done}
+use Rattle.combined.specs.Run.{Combined, done}
 use Rattle.combined.specs.inner.Shaped.{shaped}
 use Rattle.combined.proofs.History.{harmonic_length, out_shaped}
 

@@ -6,15 +6,14 @@ use Prim.Native.Nat.{ℕ, zero, suc, ◌+◌, ◌-◌, ◌≤◌}
 use native.Mathlib.Nat.{add-zero}
 use native.Mathlib.Numerals.{add-one}
 use native.Mathlib.Omega.{arith}
-use lib.ListN.{length, set, length-set}
+use lib.ListN.{set, length-set}
 use lib.Seq.{get_or-set_other}
 use lib.Ieee.{Float, nan}
 use Rattle.float.specs.Loop.{times, over}
 use Rattle.float.proofs.Loop.{over_more, keeps}
 use Rattle.harmonic_history.specs.History.{places}
 use Rattle.combined.specs.Cascade.{Settings}
-use Rattle.combined.specs.inner.Step.{Arrays, arrays, synthetic, formant, begun, ended, sampled, stepped, AtMostOne, AltersOne, EqualBefore, Stays}
-use Rattle.combined.specs.inner.Shaped.{shaped}
+use Rattle.combined.specs.inner.Step.{Arrays, arrays, begun, ended, sampled, stepped, AtMostOne, AltersOne, EqualBefore, Stays}
 
 -- ---- at most one number
 stored : (xs : List Float) (i : ℕ) (v : Float) → AtMostOne i xs (set xs i v)
@@ -83,33 +82,12 @@ stays d step alters m n a =
       out = unmoved a.out (omega arith) one.out r.out;
     })
 
--- so many samples leave the harmonic inputs as many as they were
-pub samples_long : (q : Settings) (input : List Float) (n : ℕ) (a : Arrays) → length (over 0 n (sampled q input) a).p ≡ length a.p
-samples_long q input n a =
-    keeps (λ (x : Arrays). length x.p ≡ length a.p) (n - 0) (λ i. sampled q input (0 + i)) a refl
-    (λ i x l r. (sample_alters_one q input (0 + i) x).p.long ∙ r)
-
 module _ (q : Settings) (input : List Float) (m n : ℕ) (a : Arrays) where
   pub steps_move_nothing : Stays (m + 1) m a (over m n (stepped q input) a)
   steps_move_nothing = stays 1 (stepped q input) (step_alters_one q input) m n a
 
   pub samples_move_nothing : Stays m m a (over m n (sampled q input) a)
   samples_move_nothing = rw (add-zero m) at (stays 0 (sampled q input) (λ i x. rw (add-zero i) (sample_alters_one q input i x)) m n a)
-
--- ---- the parts of a sample as the code has them: an equation for each array that is altered
-module _ (q : Settings) (n : ℕ) (a : Arrays) where
-  pub begins : (input : List Float) {syn xs : List Float}
-      → (syn ≡ set a.syn (n + 10) (synthetic q.aq input n a.syn)) × (xs ≡ set a.xs (n + 10) (synthetic q.aq input n a.syn))
-      → arrays syn xs a.fs a.p a.out ≡ begun q input n a
-  unfolding begun
-  begins input e = rw (e.0, e.1)
-
-  pub ends : {fs p out : List Float}
-      → (fs ≡ set a.fs (n + 10) (formant q.wz q.wp n a.xs a.fs))
-      × ((p ≡ set a.p (n + places) (formant q.wz q.wp n a.xs a.fs)) × (out ≡ set a.out n (shaped places q.lag q.beta p n)))
-      → arrays a.syn a.xs fs p out ≡ ended q n a
-  unfolding ended
-  ends e = rw (e.1.1, e.0, e.1.0)
 
 -- ---- steps are samples
 module _ (q : Settings) (input : List Float) (a : Arrays) where

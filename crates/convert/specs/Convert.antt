@@ -5,8 +5,7 @@ use Rattle.std.specs.Prelude.{List, [], ◌∷◌, map, Float}
 use Rattle.float.specs.Refusal.{first, answer}
 use Rattle.float.specs.Finite.{not_finite, any_exceeds}
 use Rattle.float.specs.Single.{single}
-use Rattle.float.specs.Lines.{refused_lines}
-use Rattle.float.specs.declared.Lines.{Lines}
+use Rattle.float.specs.Lines.{Lines, refused_lines}
 use Rattle.cosine.specs.Cosine.{cosine_single}
 use Rattle.cosine.specs.Step.{held, step, step_of_frequency, frequency}
 

@@ -1,19 +1,19 @@
 -- The greatest whole number below |x| × 2^46: the whole part, or one less where that is |x| × 2^46 itself. Assumes nothing.
-use Rattle.std.proofs.Common.{◌≡◌, ℕ, zero, suc, ◌+◌, ◌-◌, ◌*◌, ◌/◌, ◌^◌, ◌<◌, ◌≤◌, Bool, true, false, not, T, leb, ℤ, pos, sym, refl, ap, ◌∙◌, subst, le_trans, le_of_eq, mul-le-mul_right, add-mul, mul-pos, one-mul, zero-mul, mul-one, div-mul-le_self, add-one, arith, lit<, lit≤, leb→le, pow_pos, ltb-true}
+use Rattle.std.proofs.Common.{◌≡◌, ℕ, zero, suc, ◌+◌, ◌-◌, ◌*◌, ◌/◌, ◌^◌, ◌<◌, ◌≤◌, Bool, true, false, not, T, leb, ℤ, pos, sym, refl, ap, ◌∙◌, subst, le_trans, le_of_eq, mul-le-mul_right, add-mul, mul-pos, one-mul, zero-mul, mul-one, div-mul-le_self, add-one, arith, lit<, lit≤, le→leb, leb→le, pow_pos, ltb-true}
 use mathlib.Core.Bool.{false≢true}
 use native.Mathlib.Nat.{lt-div-mul-add, div-eq_of_lt-le}
 use lib.Dec.{nleb→lt}
-use lib.Ieee.{Float, nan, inf, fin, binary32, binary64, up, down, lt, le, neg, round, fits, of_int}
+use lib.Ieee.{Float, nan, inf, fin, binary32, binary64, up, down, lt, le, neg, round, fits, of_int, in_float}
 use lib.Ieee.Back.{round_whole}
 use lib.Ieee.Exact.{HasValue}
 use lib.Ieee.Fits.{down_pos, fits_widens}
 use Rattle.float.specs.Finite.{power, exceeds}
 use Rattle.float.specs.Floor.{floor}
-use Rattle.float.proofs.Bound.{magnitude, no_infinity}
+use Rattle.float.proofs.Bound.{magnitude, no_infinity, wider}
 use Rattle.float.proofs.Floor.{floor_whole, floor_le}
 use Rattle.float.proofs.Order.{le_values, values_le}
 use Rattle.cosine.specs.inner.Search.{whole_below}
-use Rattle.cosine.proofs.Whole.{scale, below_zero, neg_value, up46, zero_double}
+use Rattle.cosine.proofs.Whole.{scale, below_zero, neg_value, up46, zero_double, scale_code}
 
 -- ---- in whole numbers
 one_more : (q c : ℕ) → (q + 1) * c ≡ q * c + c
@@ -124,3 +124,10 @@ shortly (fin s m g) n f h k e t =
     let tested = ap (λ (z : ℕ). le (neg (of_int binary64 (pos z))) (up46 (fin s m g))) (sym w) ∙ t in
     w ∙ short a (down g) (down_pos g)
     (test_short q a (down g) (up46 (fin s m g)) (down_pos g) (few s m g f h k) (product s m g f h k) tested)
+
+-- up to 2^46 units are a whole number that a double holds
+pub below_exact : (x : Float) (n : ℕ) → exceeds (power 0) x ≡ false → n ≡ floor (2 ^ 46) 1 x → T (in_float binary64 (pos n))
+unfolding in_float
+below_exact x n h e = le→leb n (2 ^ 53) (le_trans (le_of_eq e) (le_trans (floor_le (2 ^ 46) 0 x h) (lit≤ tt)))
+
+pub ruleset below_rules = (wider, scale_code, exactly, shortly)

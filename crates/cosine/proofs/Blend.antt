@@ -1,6 +1,6 @@
 -- The blend of two entries in natural numbers: `low` up to the quarter circle, its negative mirrored above. It falls strictly. Assumes
 -- nothing.
-use Rattle.std.proofs.Common.{◌≡◌, ℕ, zero, suc, ◌+◌, ◌-◌, ◌*◌, ◌/◌, ◌%◌, ◌^◌, ◌<◌, ◌≤◌, ℤ, pos, ◌+ℤ◌, ◌*ℤ◌, neg_ℤ, sym, refl, ap, ◌∙◌, inl, inr, zero-le, le_trans, le_of_eq, add-zero, mul_comm, add_comm, eq-or-lt_of_le, mul-zero, mul-suc, arith}
+use Rattle.std.proofs.Common.{◌≡◌, ℕ, zero, suc, ◌+◌, ◌-◌, ◌*◌, ◌/◌, ◌%◌, ◌^◌, ◌<◌, ◌≤◌, ℤ, pos, ◌+ℤ◌, ◌*ℤ◌, neg_ℤ, sym, refl, ap, ◌∙◌, inl, inr, zero-le, le_trans, le_of_eq, add-zero, mul_comm, add_comm, eq-or-lt_of_le, mul-zero, mul-suc, add-one, arith}
 use lib.IntN.{*ℤ-zero, +ℤ_idr, pos-+ℤ-pos, pos-*ℤ-pos, negsuc-*ℤ-pos, neg_ℤ-+ℤ, zero-*ℤ}
 use Rattle.quarter.specs.Quarter.{quarter, entry}
 use Rattle.quarter.proofs.Entry.{entry_low, mirror}
@@ -163,3 +163,16 @@ low_between i s h = elim (eq-or-lt_of_le h) [ inl e ↦ rw (e, place_next, rest_
 
     rest_next : (i * 4096 + 4096) % 4096 ≡ 0
     rest_next = omega arith
+
+-- ---- what the code adds up: an entry alone where there is no rest, or two
+pub low_alone : (k a : ℕ) → a ≡ quarter (k / 4096) → k % 4096 ≡ 0 → a * (4096 - k % 4096) ≡ low k
+unfolding low
+low_alone k a e z =
+    rw (e, z) (sym (ap (λ (n : ℕ). quarter (k / 4096) * 4096 + n) (mul-zero (quarter (suc (k / 4096)))) ∙ add-zero
+    (quarter (k / 4096) * 4096)))
+
+pub low_pair : (k a b : ℕ) → a ≡ quarter (k / 4096) → b ≡ quarter (k / 4096 + 1) → a * (4096 - k % 4096) + b * (k % 4096) ≡ low k
+unfolding low
+low_pair k a b e f = rw (e, f, add-one)
+
+pub ruleset blends = (low_alone, low_pair, low_le)

@@ -105,3 +105,22 @@ step_is c k s = le_antisymm (not_before k (step c) s r) (not_before (step c) k r
 
     not_before : (i j : ℕ) → StepOf c i → StepOf c j → i ≤ j
     not_before i j p q = le_of_suc-le-suc (lt_of_not-le (λ (l : suc j ≤ i). p.least j l q.reaches))
+
+-- ---- whether or not anything passes, halving ends within its range
+above_inside : (test : ℕ → Bool) (d lo : ℕ) → above d test lo ≤ lo + 2 ^ d
+unfolding above
+above_inside test zero lo = omega arith
+above_inside test (suc d) lo = go (test (lo + 2 ^ d)) (above_inside test d lo) (above_inside test d (lo + 2 ^ d))
+  where
+    go : (b : Bool) → above d test lo ≤ lo + 2 ^ d → above d test (lo + 2 ^ d) ≤ lo + 2 ^ d + 2 ^ d →
+        above d test (cond b lo (lo + 2 ^ d)) ≤ lo + 2 ^ suc d
+    go true h k = omega (arith, two-pow-succ d)
+    go false h k = omega (arith, two-pow-succ d)
+
+pub step_inside : (c : Float) → step c ≤ 2 ^ 24
+unfolding step
+step_inside c = go (reached c 0)
+  where
+    go : (b : Bool) → cond b 0 (above 24 (reached c) 0) ≤ 2 ^ 24
+    go true = omega arith
+    go false = above_inside (reached c) 24 0

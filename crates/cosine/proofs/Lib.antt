@@ -8,7 +8,8 @@ pub mod Whole
 pub mod Nearest
 pub mod Back
 pub mod Halfway
-mod Halving
+pub mod Mapped
+pub mod Written
 mod Segment
-mod Below
-mod Reach
+pub mod Below
+pub mod Reach

@@ -1,17 +1,18 @@
 -- Which steps reach a value x in −1..1, in whole numbers: up to the quarter circle those whose blend is at most |x| × 2^42, above it
 -- those whose mirrored one is at least that. And so the step found among the blends is the step of x. Assumes nothing.
-use Rattle.std.proofs.Common.{◌≡◌, ℕ, zero, suc, ◌+◌, ◌-◌, ◌*◌, ◌/◌, ◌^◌, ◌<◌, ◌≤◌, Bool, true, false, cond, not, ◌||◌, T, leb, ℤ, sym, refl, ap, ◌∙◌, subst, true≢false, le_trans, lt_of_le_of_lt, le_of_lt, lt_irrefl, lt-suc_self, mul_comm, div-lt_iff_lt-mul, mul-pos, le-div_iff_mul-le, add-one, arith, leb→le, pow_pos, ltb-false}
+use Rattle.std.proofs.Common.{◌≡◌, ℕ, zero, suc, ◌+◌, ◌-◌, ◌*◌, ◌/◌, ◌^◌, ◌<◌, ◌≤◌, Bool, true, false, cond, not, ◌||◌, T, leb, ℤ, sym, refl, ap, ◌∙◌, subst, true≢false, lit≤, le_trans, lt_of_le_of_lt, le_of_lt, lt_irrefl, lt-suc_self, mul_comm, div-lt_iff_lt-mul, mul-pos, le-div_iff_mul-le, add-one, arith, leb→le, pow_pos, ltb-false}
 use mathlib.Core.Bool.{false≢true}
 use native.Mathlib.Nat.{two-pow-succ, div-div-eq-div-mul}
 use lib.Dec.{nleb→lt}
-use lib.Ieee.{Float, nan, inf, fin, up, down, lt, eq, le, ne, neg}
+use lib.Ieee.{Float, nan, inf, fin, binary32, of_bits, up, down, lt, eq, le, ne, neg, is_nan}
 use lib.Ieee.Compare.{differs_from_itself, nan_differs}
 use lib.Ieee.Fits.{down_pos}
 use Rattle.float.specs.Single.{single}
 use Rattle.float.specs.Finite.{power, exceeds}
 use Rattle.float.specs.Floor.{floor}
-use Rattle.float.proofs.Bound.{magnitude, no_infinity}
+use Rattle.float.proofs.Bound.{magnitude, no_infinity, wider}
 use Rattle.float.proofs.Floor.{floor_whole}
+use Rattle.float.proofs.Signs.{nan_code}
 use Rattle.float.proofs.Order.{Under, le_values, values_le}
 use Rattle.cosine.specs.Cosine.{cosine}
 use Rattle.cosine.specs.inner.Low.{low}
@@ -19,7 +20,7 @@ use Rattle.cosine.specs.Step.{held, above, reached, StepOf, step}
 use Rattle.cosine.specs.inner.Search.{LowStep, whole_below}
 use Rattle.cosine.proofs.Blend.{low_monotone, low_first}
 use Rattle.cosine.proofs.Monotone.{near, far}
-use Rattle.cosine.proofs.Least.{step_is}
+use Rattle.cosine.proofs.Least.{step_is, step_inside}
 use Rattle.cosine.proofs.Whole.{zero_double, sixteenth}
 use Rattle.cosine.proofs.Below.{digits, no_nan}
 
@@ -194,3 +195,21 @@ held_within c = go (lt (single 1 1) c) (lt c (neg (single 1 1))) refl refl
     go true b p q = refl
     go false true p q = refl
     go false false p q = ap (λ (z : Bool). z || lt c (neg (power 0))) p ∙ q
+
+-- zero, as the code writes it
+pub zero_code : of_bits binary32 0 ≡ zero_double
+unfolding of_bits
+zero_code = refl
+
+pub held_units : (c : Float) → exceeds (power 16) (held c) ≡ false
+held_units c = wider 0 16 (held c) (lit≤ tt) (held_within c)
+
+pub mirrored : (x : Float) (n r k : ℕ) → exceeds (power 0) x ≡ false → lt x zero_double ≡ true → n ≡ whole_below 46 x → LowStep (n / 16) r →
+    k ≡ 2 ^ 24 + 1 - r → k ≡ step x
+mirrored x n r k h l e s f = f ∙ step_high x n r h l e s
+
+pub mirrored_inside : (x : Float) (n r k : ℕ) → exceeds (power 0) x ≡ false → lt x zero_double ≡ true → n ≡ whole_below 46 x →
+    LowStep (n / 16) r → k ≡ 2 ^ 24 + 1 - r → k ≤ 2 ^ 24
+mirrored_inside x n r k h l e s f = rw (mirrored x n r k h l e s f) (step_inside x)
+
+pub ruleset step_rules = (nan_code, held_within, held_units, zero_code, step_low, mirrored, mirrored_inside, step_nan)

@@ -1,9 +1,12 @@
 -- The search for the least step up to the quarter circle whose blend is no greater than n: first between which two entries n lies, then
 -- how many steps after the first of them. Assumes nothing.
-use Rattle.std.proofs.Common.{◌≡◌, ℕ, suc, ◌+◌, ◌-◌, ◌*◌, ◌/◌, ◌^◌, ◌<◌, ◌≤◌, T, sym, ap, ◌∙◌, subst, le_trans, lt_of_lt_of_le, not-suc-le-zero, div-lt_iff_lt-mul, add-mul, lt_of_not-le, mul-add, add-one, arith, lit≤, le→leb, leb→le}
+use Rattle.std.proofs.Common.{◌≡◌, ℕ, zero, suc, Bool, true, false, inl, inr, pow_pos, ◌+◌, ◌-◌, ◌*◌, ◌/◌, ◌^◌, ◌<◌, ◌≤◌, T, sym, ap, ◌∙◌, subst, le_trans, lt_of_lt_of_le, not-suc-le-zero, div-lt_iff_lt-mul, add-mul, lt_of_not-le, mul-add, add-one, arith, lit≤, le→leb, leb→le}
 use native.Mathlib.Nat.{lt-mul-div-succ, mul-div-le}
-use borrow.Author.Tests.{lt-leb}
+use native.Mathlib.Nat.{two-pow-succ}
+use Rattle.std.proofs.lemmas.Bool.{cases_lt}
+use borrow.Author.Tests.{lt-leb, le-leb}
 use Rattle.quarter.specs.Quarter.{quarter}
+use Rattle.quarter.specs.inner.Above.{LastAbove}
 use Rattle.quarter.proofs.Fall.{first, last, fall, monotone, at_most}
 use Rattle.cosine.specs.Step.{above}
 use Rattle.cosine.specs.inner.Search.{entry_within, LowStep}
@@ -16,6 +19,29 @@ pub record Segment (n i : ℕ) : Type 0 where
   pub room : i < 2048
   pub over : n < quarter i * 4096
   pub under : quarter (suc i) * 4096 ≤ n
+
+-- where nothing passes up to i and everything does after it, i is followed by what halving finds
+above_from : (test : ℕ → Bool) (d lo i : ℕ) → lo ≤ i → i < lo + 2 ^ d → ((k : ℕ) → lo < k → k ≤ i → test k ≡ false) →
+    ((k : ℕ) → i < k → k < lo + 2 ^ d → test k ≡ true) → suc i ≡ above d test lo
+unfolding above
+above_from test zero lo i h l f t = omega arith
+above_from test (suc d) lo i h l f t =
+    elim (cases_lt i (lo + 2 ^ d)) [
+      | inl a ↦
+          rw (t (lo + 2 ^ d) a (omega (arith, two-pow-succ d, pow_pos d)))
+          (above_from test d lo i h a f (λ k g m. t k g (omega (arith, two-pow-succ d))))
+      | inr b ↦
+          rw (f (lo + 2 ^ d) (omega (arith, pow_pos d)) b)
+          (above_from test d (lo + 2 ^ d) i b (omega (arith, two-pow-succ d)) (λ k g m. f k (omega arith) m)
+          (λ k g m. t k g (omega (arith, two-pow-succ d))))
+    ]
+
+-- what the table's search has shown
+placed : (q i : ℕ) → LastAbove q i → i + 1 ≡ above 11 (entry_within q) 0
+placed q i r =
+    add-one i
+    ∙ above_from (entry_within q) 11 0 i (omega arith) r.inside (λ k g m. lt-leb (quarter k) q (r.over k g m))
+    (λ k g m. le-leb (quarter k) q (r.within k g m))
 
 upward : (q : ℕ) → Upward (entry_within q) 2048
 upward q i j h l t = le→leb (quarter j) q (le_trans (monotone i j h l) (leb→le (quarter i) q t))
@@ -129,3 +155,7 @@ ready n i a b h e f g = rw (f, g, add-one) (go (segment n i h e))
           few = c.few;
           is = rw add-one (found n i s q c);
         }
+
+-- the same by what the code is told of i
+pub ready_at : (n i a b : ℕ) → n < 2 ^ 42 → LastAbove (n / 4096) i → a ≡ quarter i → b ≡ quarter (i + 1) → Ready n i a b
+ready_at n i a b h r = ready n i a b h (placed (n / 4096) i r)

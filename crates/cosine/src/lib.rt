@@ -1,5 +1,4 @@
 // The cosine rule of document 01: whole numbers in the place of a C library's cosine and arc cosine.
-// A caller binds the table once, `let t = quarter::entries();`, and lends it.
 #![tactic(auto)]
 
 ghost use Rattle.std.specs.Prelude.{◌≡◌, ◌+◌, ◌^◌, ◌≤◌, true, false, pos};
@@ -7,158 +6,127 @@ ghost use Rattle.std.specs.Float.{fin};
 ghost use Rattle.std.specs.Float.Ieee.{lt};
 ghost use Rattle.float.specs.Finite.{power, exceeds};
 ghost use Rattle.float.specs.Floor.{floor};
-ghost use Rattle.quarter.specs.Quarter.{quarter, quarter_table};
 ghost use Rattle.cosine.specs.Cosine.{folded, cosine, cosine_single};
 ghost use Rattle.cosine.specs.inner.Low.{low};
-ghost use Rattle.cosine.specs.Step.{held, above, step, step_of_frequency, frequency};
-ghost use Rattle.cosine.specs.inner.Search.{entry_within, LowStep, whole_below};
+ghost use Rattle.cosine.specs.Step.{held, step, step_of_frequency, frequency};
+ghost use Rattle.cosine.specs.inner.Search.{LowStep, whole_below};
 ghost use Rattle.cosine.specs.Angle.{angle, step_of_angle};
 
 // The step within half a circle that has the same cosine.
+#[tactic(auto, unfolding(crate::specs::Cosine::folded))]
 fn fold(k: u32) -> u32
-    ensures { result ≡ folded k }
+    ensures value { result ≡ folded k }
+    ensures inside { result ≤ 2 ^ 24 }
 {
     let r = k % 33554432;
     if r <= 16777216 { r } else { 33554432 - r }
 }
 
-// One entry of the quarter.
-fn entry_at(t: &[u32; 2049], i: usize) -> u64
-    requires fact_1 { t.now ≡ quarter_table }
-    requires fact_2 { i ≤ 2048 }
-    ensures { result ≡ quarter i }
-{
-    t[i] as u64
-}
-
 // The blend of two entries, up to the quarter circle.
-fn low_blend(t: &[u32; 2049], k: u32) -> u64
-    requires fact_1 { t.now ≡ quarter_table }
-    requires fact_2 { k ≤ 2 ^ 23 }
-    ensures { result ≡ low k }
+#[tactic(auto, using(crate::proofs::Blend::blends))]
+fn low_blend(k: u32) -> u64
+    requires { k ≤ 2 ^ 23 }
+    ensures value { result ≡ low k }
+    ensures inside { result ≤ 2 ^ 42 }
 {
     let i = (k / 4096) as usize;
-    let s = (k % 4096) as u64;
-    let a = entry_at(t, i) * (4096 - s);
+    let s = u64::from(k % 4096);
+    let a = u64::from(quarter::at(i)) * (4096 - s);
     if s == 0 {
         return a;
     }
-    a + entry_at(t, i + 1) * s
+    a + u64::from(quarter::at(i + 1)) * s
 }
 
 // The unnarrowed cosine of a step.
-pub fn cosine(t: &[u32; 2049], k: u32) -> f64
-    requires { t.now ≡ quarter_table }
+#[tactic(auto, using(crate::proofs::Written::cosine_code))]
+pub fn cosine(k: u32) -> f64
     ensures { result ≡ cosine k }
 {
     let f = fold(k);
     if f <= 8388608 {
-        low_blend(t, f) as f64 / 4398046511104.0
+        low_blend(f) as f64 / 4398046511104.0
     } else {
-        -(low_blend(t, 16777216 - f) as f64 / 4398046511104.0)
+        -(low_blend(16777216 - f) as f64 / 4398046511104.0)
     }
 }
 
 // Held to -1..1; a NaN stays.
+#[tactic(auto, using(crate::proofs::Held::held_code))]
 pub fn hold(c: f32) -> f32
     ensures { result ≡ held c }
 {
-    if 1.0 < c {
-        return 1.0;
-    }
-    if c < -1.0 {
-        return -1.0;
-    }
-    c
-}
-
-// The last entry above q, where the first one is: by halving.
-fn place(t: &[u32; 2049], q: u64) -> usize
-    requires { t.now ≡ quarter_table }
-    ensures { result + 1 ≡ above 11 (entry_within q) 0 }
-{
-    let mut lo: usize = 0;
-    let mut half: usize = 1024;
-    while 0 < half {
-        let mid = lo + half;
-        let found = entry_at(t, mid) <= q;
-        if !found {
-            lo = mid;
-        }
-        half /= 2;
-    }
-    lo
+    c.clamp(-1.0, 1.0)
 }
 
 // The least step up to the quarter circle whose blend is no greater than n: between two entries the blend falls by their difference a step.
-fn low_step(t: &[u32; 2049], n: u64) -> u32
-    requires { t.now ≡ quarter_table }
+fn low_step(n: u64) -> u32
     ensures { LowStep n result }
 {
     if 4398046511104 <= n {
         return 0;
     }
-    let i = place(t, n / 4096);
-    let a = entry_at(t, i);
-    let b = entry_at(t, i + 1);
+    let i = quarter::last_above(n / 4096);
+    let a = u64::from(quarter::at(i));
+    let b = u64::from(quarter::at(i + 1));
     let s = (a * 4096 - n - 1) / (a - b) + 1;
     (i as u64 * 4096 + s) as u32
 }
 
 // |x| × 2^46, rounded down.
+#[tactic(auto, using(crate::proofs::Whole::cuts))]
 fn whole_part(x: f32) -> u64
     requires { exceeds (power 16) x ≡ false }
     ensures { result ≡ floor (2 ^ 46) 1 x }
 {
-    let y = std::num::f32_to_f64_with_nan(x) * 70368744177664.0;
-    if y < 0.0 {
-        return std::num::truncating_f64_to_u64(-y);
-    }
-    if 0.0 < y {
-        return std::num::truncating_f64_to_u64(y);
-    }
-    0
+    let units = f64::from(x) * 70368744177664.0;
+    std::num::saturating_f64_to_u64(units.abs())
 }
 
 // The greatest whole number below |x| × 2^46, for an x in -1..0 that is not 0.
+#[tactic(auto, using(crate::proofs::Below::below_rules))]
 fn whole_below(x: f32) -> u64
-    requires fact_1 { exceeds (power 0) x ≡ false }
-    requires fact_2 { lt x (fin false 0 (pos 0)) ≡ true }
+    requires within { exceeds (power 0) x ≡ false }
+    requires below { lt x (fin false 0 (pos 0)) ≡ true }
     ensures { result ≡ whole_below 46 x }
 {
     let n = whole_part(x);
-    if -(n as f64) <= std::num::f32_to_f64_with_nan(x) * 70368744177664.0 {
+    if -(n as f64) <= f64::from(x) * 70368744177664.0 {
         return n - 1;
     }
     n
 }
 
 // The least step whose unnarrowed cosine is no greater than c, held to -1..1. Above the quarter circle it mirrors the last step whose cosine reaches |c|.
-pub fn step(t: &[u32; 2049], c: f32) -> u32
-    requires { t.now ≡ quarter_table }
-    ensures { result ≡ step (held c) }
+#[tactic(auto, using(crate::proofs::Reach::step_rules))]
+pub fn step(c: f32) -> u32
+    ensures value { result ≡ step (held c) }
+    ensures inside { result ≤ 2 ^ 24 }
 {
     let x = hold(c);
-    if x != x {
+    if x.is_nan() {
         return 16777216;
     }
     if x < 0.0 {
-        return 16777217 - low_step(t, whole_below(x) / 16);
+        return 16777217 - low_step(whole_below(x) / 16);
     }
-    low_step(t, whole_part(x) / 16)
+    low_step(whole_part(x) / 16)
 }
 
 // The whole number of steps nearest to a frequency of up to 65,536 in magnitude, a half going to the even one. Where whole_part cuts
 // anything off, the frequency is far below half a step.
+#[tactic(auto, using(crate::proofs::Written::frequency_rules))]
 pub fn step_of_frequency(f: f32) -> u32
     requires { exceeds (power 16) f ≡ false }
-    ensures { (result ≡ step_of_frequency f) × (result ≤ 2 ^ 25) }
+    ensures value { result ≡ step_of_frequency f }
+    ensures inside { result ≤ 2 ^ 25 }
 {
     float::half_even(whole_part(f), 37) as u32
 }
 
 // The whole number of steps nearest to an angle of up to 16 in magnitude, a half going to the even one. A step is 13176795 units of
 // 2^-46, an odd number: halfway lies half a unit, which one single alone has, 6588397.5 units, and that goes to 0.
+#[tactic(auto, using(crate::proofs::Written::angle_rules))]
 pub fn step_of_angle(a: f32) -> u32
     requires { exceeds (power 4) a ≡ false }
     ensures { result ≡ step_of_angle a }
@@ -167,14 +135,16 @@ pub fn step_of_angle(a: f32) -> u32
 }
 
 // The angle of a step, rounded once to single.
+#[tactic(auto, using(crate::proofs::Written::angle_code))]
 pub fn angle(k: u32) -> f32
     requires { k ≤ 2 ^ 24 }
     ensures { result ≡ angle k }
 {
-    float::narrow((k as f64) * 3.1415927410125732421875 / 16777216.0)
+    float::narrow(f64::from(k) * 3.1415927410125732421875 / 16777216.0)
 }
 
 // A step as a frequency.
+#[tactic(auto, using(crate::proofs::Written::frequency_code))]
 pub fn frequency(k: u32) -> f32
     requires { k ≤ 2 ^ 24 }
     ensures { result ≡ frequency k }
@@ -183,9 +153,8 @@ pub fn frequency(k: u32) -> f32
 }
 
 // The cosine of a step, for single answers.
-pub fn cosine_single(t: &[u32; 2049], k: u32) -> f32
-    requires { t.now ≡ quarter_table }
+pub fn cosine_single(k: u32) -> f32
     ensures { result ≡ cosine_single k }
 {
-    float::narrow(cosine(t, k))
+    float::narrow(cosine(k))
 }

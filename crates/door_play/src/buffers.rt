@@ -1,46 +1,29 @@
 // What is lent, and whether it holds what it should. No value here is a NaN, and none but a new coder's a zero.
+use float::status::Refusal;
 
 // What stands in a lent buffer before the call: no operation here answers it.
 pub const MARK: f32 = 77.0;
 
-// Two lists hold the same values.
-fn same(one: &[f32], other: &[f32]) -> bool {
-    if one.len() != other.len() {
-        return false;
-    }
-    let mut i = 0;
-    while i < one.len() {
-        if one[i] != other[i] {
+pub const MARKS: [f32; 10] = [MARK; 10];
+
+// The door, called once for each refusal's arguments and status, and then so that it is done. Refused, what is lent to it is as it was
+// before; done, it is what the operation answers.
+pub fn hold<A: Copy, L: Copy + PartialEq, D: Fn(A, &mut L) -> u32, const N: usize>(
+    door: D,
+    refused: [(A, u32); N],
+    done: A,
+    before: L,
+    answer: Result<L, Refusal>,
+) -> bool
+    requires { D.IsAlwaysCallable door }
+{
+    let mut lent = before;
+    for (arguments, status) in refused {
+        if door(arguments, &mut lent) != status {
             return false;
         }
-        i += 1;
     }
-    true
-}
-
-// A buffer goes in by value: its length is then part of its type.
-pub fn ten(one: [f32; 10], other: [f32; 10]) -> bool {
-    same(&one, &other)
-}
-
-pub fn eleven(one: [f32; 11], other: [f32; 11]) -> bool {
-    same(&one, &other)
-}
-
-pub fn sixty(one: [f32; 60], other: [f32; 60]) -> bool {
-    same(&one, &other)
-}
-
-pub fn history(one: [f32; 145], other: [f32; 145]) -> bool {
-    same(&one, &other)
-}
-
-pub fn filters(one: [f32; 44], other: [f32; 44]) -> bool {
-    same(&one, &other)
-}
-
-pub fn marked() -> [f32; 10] {
-    [MARK; 10]
+    (lent == before) & (door(done, &mut lent) == 0) & (answer == Ok(lent))
 }
 
 // Ten line frequencies in the tables' units, and others beside them.
@@ -70,12 +53,11 @@ pub fn other_cosines() -> [f32; 10] {
 // A set with an infinity in it.
 pub fn infinite() -> [f32; 10] {
     let mut set = cosines();
-    set[9] = 1.0f32 / 0.0;
+    set[9] = f32::INFINITY;
     set
 }
 
 // The eleven coefficients of a filter that has a line set.
 pub fn filter() -> [f32; 11] {
-    let answer = lsp_filter::lsp_to_lpc(cosines());
-    answer.a
+    lsp_filter::lsp_to_lpc(cosines()).unwrap_or([MARK; 11])
 }

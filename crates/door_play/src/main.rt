@@ -9,82 +9,51 @@ mod rows;
 mod samples;
 mod whole;
 
-// Standard output, by its number.
-const STDOUT_FILENO: i32 = 1;
+use tally::Tally;
 
-#[derive(Drop)]
-struct Tally {
-    passed: u64,
-    failed: u64,
+fn line_doors(tally: &mut Tally<impl Print>) {
+    tally.case("resting_set", lines::rest());
+    tally.case("lsp_cosines_to_freq", lines::cosines_to_freq());
+    tally.case("lsp_freq_to_cosines", lines::freq_to_cosines());
+    tally.case("quantise_lsp_freq", lines::quantise());
+    tally.case("decode_lsp_freq", lines::decode());
+    tally.case("split_lsp_index", lines::split());
+    tally.case("combine_lsp_index", lines::combine());
+    tally.case("enforce_lsp_stability", lines::stability());
+    tally.case("interpolate_lsp", lines::interpolate());
+    tally.case("lsp_to_lpc", lines::to_lpc());
+    tally.case("lpc_to_lsp", lines::of_lpc());
 }
 
-// Writes a door's line and counts it. The counts wrap, which no number of doors reaches, so that a new door needs no proof here.
-fn door(tally: Tally, name: &[u8], holds: bool) -> Tally {
-    let passed = tally.passed;
-    let failed = tally.failed;
-    io::write_all(STDOUT_FILENO, name);
-    if holds {
-        io::write_all(STDOUT_FILENO, b": ok\n");
-        return Tally {
-            passed: std::num::wrapping_add_u64(passed, 1),
-            failed,
-        };
-    }
-    io::write_all(STDOUT_FILENO, b": FAILED\n");
-    Tally {
-        passed,
-        failed: std::num::wrapping_add_u64(failed, 1),
-    }
+fn sample_doors(tally: &mut Tally<impl Print>) {
+    tally.case("lpc_analysis", samples::analysis());
+    tally.case("open_loop_pitch", samples::pitch());
+    tally.case("harmonic_noise_shaping", samples::shaping());
+    tally.case("weighting_taps", frames::taps());
+    tally.case("weight_subframe", frames::weight());
+    tally.case("new_filter_memory", frames::new_memory());
+    tally.case("run_combined", frames::combined());
+    tally.case("combined_impulse_response", frames::response());
 }
 
-fn line_doors(tally: Tally) -> Tally {
-    let t = door(tally, b"resting_set", lines::rest());
-    let t = door(t, b"lsp_cosines_to_freq", lines::cosines_to_freq());
-    let t = door(t, b"lsp_freq_to_cosines", lines::freq_to_cosines());
-    let t = door(t, b"quantise_lsp_freq", lines::quantise());
-    let t = door(t, b"decode_lsp_freq", lines::decode());
-    let t = door(t, b"split_lsp_index", lines::split());
-    let t = door(t, b"combine_lsp_index", lines::combine());
-    let t = door(t, b"enforce_lsp_stability", lines::stability());
-    let t = door(t, b"interpolate_lsp", lines::interpolate());
-    let t = door(t, b"lsp_to_lpc", lines::to_lpc());
-    door(t, b"lpc_to_lsp", lines::of_lpc())
+fn frame_doors(tally: &mut Tally<impl Print>) {
+    tally.case("new_coder", whole::start());
+    tally.case("code_frame", whole::code());
 }
 
-fn sample_doors(tally: Tally) -> Tally {
-    let t = door(tally, b"lpc_analysis", samples::analysis());
-    let t = door(t, b"open_loop_pitch", samples::pitch());
-    let t = door(t, b"harmonic_noise_shaping", samples::shaping());
-    let t = door(t, b"weighting_taps", frames::taps());
-    let t = door(t, b"weight_subframe", frames::weight());
-    let t = door(t, b"new_filter_memory", frames::new_memory());
-    let t = door(t, b"run_combined", frames::combined());
-    door(t, b"combined_impulse_response", frames::response())
+fn row_doors(tally: &mut Tally<impl Print>) {
+    tally.case("load_rows", rows::load());
+    tally.case("row", rows::row());
+    tally.case("quantise_lsp_freq_in", rows::quantise());
+    tally.case("decode_lsp_freq_in", rows::decode());
+    tally.case("code_frame_in", whole::code_in());
 }
 
-fn frame_doors(tally: Tally) -> Tally {
-    let t = door(tally, b"new_coder", whole::start());
-    door(t, b"code_frame", whole::code())
-}
-
-fn row_doors(tally: Tally) -> Tally {
-    let t = door(tally, b"load_rows", rows::load());
-    let t = door(t, b"row", rows::row());
-    let t = door(t, b"quantise_lsp_freq_in", rows::quantise());
-    let t = door(t, b"decode_lsp_freq_in", rows::decode());
-    door(t, b"code_frame_in", whole::code_in())
-}
-
-fn main() {
-    let first = line_doors(Tally {
-        passed: 0,
-        failed: 0,
-    });
-    let second = sample_doors(first);
-    let third = frame_doors(second);
-    let tally = row_doors(third);
-    io::print_decimal(STDOUT_FILENO, tally.passed);
-    io::write_all(STDOUT_FILENO, b" passed, ");
-    io::print_decimal(STDOUT_FILENO, tally.failed);
-    io::write_all(STDOUT_FILENO, b" failed\n");
+fn main(rt: HostRuntime) {
+    let mut tally = Tally::new(&rt);
+    line_doors(&mut tally);
+    sample_doors(&mut tally);
+    frame_doors(&mut tally);
+    row_doors(&mut tally);
+    tally.finish();
 }

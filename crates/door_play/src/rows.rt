@@ -1,29 +1,23 @@
 // The doors of code rows of a caller's own. Their files and rows are of few numbers: crates/worked_cases has files of all kinds.
 use crate::buffers;
+use crate::buffers::MARKS;
+use own_rows::RowPlace;
+use spec_lsp::quantise::Quantised;
 
 // A file of rows that are all 500, which is 1 and 244 as bytes, low byte first.
 fn file() -> [u8; 5128] {
-    let mut file = [1u8; 5128];
-    for i in 0..2560 {
-        file[2 * i] = 244;
+    let mut file = [1; 5128];
+    for number in file[..5120].chunks_exact_mut(2) {
+        number[0] = 244;
     }
-    file[5120] = 8;
-    file[5121] = 20;
-    file[5122] = 0;
-    file[5123] = 0;
-    file[5124] = 0;
-    file[5125] = 10;
-    file[5126] = 0;
-    file[5127] = 0;
+    file[5120..].copy_from_slice(&[8, 20, 0, 0, 0, 10, 0, 0]);
     file
 }
 
-fn all_are(rows: &[i16; 2560], n: i16) -> bool {
-    let mut same = true;
-    for i in 0..2560 {
-        same = same & (rows[i] == n);
-    }
-    same
+// With room for 2,559 numbers the file is not looked at.
+fn load_few(file: &[u8]) -> bool {
+    let mut few = [77; 2559];
+    (c_api_rows::g7231_load_rows(file, &mut few) == 1) & (few == [77; 2559])
 }
 
 pub fn load() -> bool {
@@ -32,65 +26,83 @@ pub fn load() -> bool {
     wrong[5120] = 9;
     let mut large = right;
     large[1] = 33;
-    let mut rows = [77i16; 2560];
-    let mut few = [77i16; 2559];
-    let one = c_api_rows::g7231_load_rows(&wrong, &mut few);
-    let ten = c_api_rows::g7231_load_rows(&wrong, &mut rows);
-    let eleven = c_api_rows::g7231_load_rows(&large, &mut rows);
-    let kept = all_are(&rows, 77);
-    let done = c_api_rows::g7231_load_rows(&right, &mut rows);
-    let same = all_are(&rows, 500);
-    (one == 1) & (ten == 10) & (eleven == 11) & kept & (done == 0) & same & (few[0] == 77)
+    let all = buffers::hold(
+        |file, rows| c_api_rows::g7231_load_rows(&file, rows),
+        [(wrong, 10), (large, 11)],
+        right,
+        [77; 2560],
+        Ok([500; 2560]),
+    );
+    all & load_few(&wrong)
 }
 
 pub fn row() -> bool {
-    let rows = [500i16; 2560];
-    let few = [500i16; 2559];
-    let mut start = 77;
-    let mut count = 78;
-    let one = c_api_rows::g7231_row(&few, 3, 0, &mut start, &mut count);
-    let two = c_api_rows::g7231_row(&rows, 3, 0, &mut start, &mut count);
-    let two_too = c_api_rows::g7231_row(&rows, 0, 256, &mut start, &mut count);
-    let kept = (start == 77) & (count == 78);
-    let done = c_api_rows::g7231_row(&rows, 2, 3, &mut start, &mut count);
+    let rows = [500; 2560];
     let want = own_rows::row(&rows, 2, 3);
-    let same = (start == want.start) & (count == want.count) & (start == 1548) & (count == 4);
-    (one == 1) & (two == 2) & (two_too == 2) & kept & (done == 0) & same
+    let known = RowPlace {
+        start: 1548,
+        count: 4,
+    };
+    let held = buffers::hold(
+        |(rows, band, index), lent| {
+            c_api_rows::g7231_row(rows, band, index, &mut lent.start, &mut lent.count)
+        },
+        [
+            ((&rows[..2559], 3, 0), 1),
+            ((&rows[..], 3, 0), 2),
+            ((&rows[..], 0, 256), 2),
+        ],
+        (&rows[..], 2, 3),
+        RowPlace {
+            start: 77,
+            count: 78,
+        },
+        want,
+    );
+    held & (want == Ok(known))
 }
 
 pub fn quantise() -> bool {
     let p = buffers::frequencies();
     let prev = buffers::other_frequencies();
     let bad = buffers::infinite();
-    let mut rows = [500i16; 2560];
+    let mut rows = [500; 2560];
     rows[3] = -100;
-    let few = [500i16; 2559];
-    let mut index = 77;
-    let mut set = buffers::marked();
-    let one = c_api_rows::g7231_bare_quantise_lsp_freq_in(&few, &p, &bad, &mut index, &mut set);
-    let five = c_api_rows::g7231_bare_quantise_lsp_freq_in(&rows, &p, &bad, &mut index, &mut set);
-    let kept = buffers::ten(set, buffers::marked());
-    let kept_index = index == 77;
-    let done = c_api_rows::g7231_bare_quantise_lsp_freq_in(&rows, &p, &prev, &mut index, &mut set);
-    let want = own_rows::quantise_lsp_freq_in(&rows, p, prev);
-    let lines = want.set;
-    let same = buffers::ten(set, lines);
-    (one == 1) & (five == 5) & kept & kept_index & (done == 0) & (index == want.index) & same
+    buffers::hold(
+        |(rows, prev), lent| {
+            c_api_rows::g7231_bare_quantise_lsp_freq_in(
+                rows,
+                &p,
+                &prev,
+                &mut lent.index,
+                &mut lent.set,
+            )
+        },
+        [((&rows[..2559], bad), 1), ((&rows[..], bad), 5)],
+        (&rows[..], prev),
+        Quantised {
+            index: 77,
+            set: MARKS,
+        },
+        own_rows::quantise_lsp_freq_in(&rows, p, prev),
+    )
 }
 
 pub fn decode() -> bool {
     let prev = buffers::frequencies();
     let bad = buffers::infinite();
-    let rows = [500i16; 2560];
-    let few = [500i16; 2559];
-    let mut set = buffers::marked();
-    let one = c_api_rows::g7231_bare_decode_lsp_freq_in(&few, 16777216, &bad, &mut set);
-    let nine = c_api_rows::g7231_bare_decode_lsp_freq_in(&rows, 16777216, &bad, &mut set);
-    let five = c_api_rows::g7231_bare_decode_lsp_freq_in(&rows, 66051, &bad, &mut set);
-    let kept = buffers::ten(set, buffers::marked());
-    let done = c_api_rows::g7231_bare_decode_lsp_freq_in(&rows, 66051, &prev, &mut set);
-    let want = own_rows::decode_lsp_freq_in(&rows, 66051, prev);
-    let lines = want.lines;
-    let same = buffers::ten(set, lines);
-    (one == 1) & (nine == 9) & (five == 5) & kept & (done == 0) & same
+    let rows = [500; 2560];
+    buffers::hold(
+        |(rows, index, prev), set| {
+            c_api_rows::g7231_bare_decode_lsp_freq_in(rows, index, &prev, set)
+        },
+        [
+            ((&rows[..2559], 16777216, bad), 1),
+            ((&rows[..], 16777216, bad), 9),
+            ((&rows[..], 66051, bad), 5),
+        ],
+        (&rows[..], 66051, prev),
+        MARKS,
+        own_rows::decode_lsp_freq_in(&rows, 66051, prev),
+    )
 }

@@ -6,6 +6,9 @@ use lib.Ieee.{Float, fin, binary32, round, of_bits, mul, le, lt, to_signed}
 use Rattle.float.specs.Single.{◌⊗◌, single}
 use Rattle.float.specs.Vector.{at}
 use Rattle.float.specs.Difference.{difference}
+use Rattle.std.proofs.lemmas.Bool.Decides.{nat_tests}
+use Rattle.std.specs.Int.{abs_diff, div_ceil}
+use Rattle.std.specs.Ordering.{nat_cmp, ord_max}
 use Rattle.line.specs.declared.Ends.{Ends}
 use Rattle.line_grid.specs.Multiple.{grid}
 use Rattle.line_grid.specs.Sixtyfourths.{up64}
@@ -76,6 +79,10 @@ one_larger : (f : ℕ → ℕ) (n : ℕ) → largest f (n + 1) ≡ max (largest 
 unfolding largest
 one_larger f n = ap (largest f) (add-one n)
 
+-- `max` of the code
+larger : (a b : ℕ) → ord_max nat_cmp a b ≡ max a b
+larger a b = grind (arith, nat_tests)
+
 -- a loop that has come to i
 pub record Gone (x y : List Float) (i most : ℕ) : Type 0 where
   pub bound : i ≤ 10
@@ -86,18 +93,21 @@ pub gone_none : (x y : List Float) → Gone x y 0 0
 unfolding steps_apart largest
 gone_none x y = record { bound = lit≤ tt; is = refl; few = lit< tt }
 
-pub gone_more : (x y : List Float) (i most one next a b : ℕ) → i < 10 → (a ≡ placed (at x i)) × (a < 1073741824) →
-    (b ≡ placed (at y i)) × (b < 1073741824) → (one ≡ between a b) × (one < 1073741824) →
-    (next ≡ max most one) × (next < 1073741824) → Gone x y i most → Gone x y (i + 1) next
+pub gone_more : (x y : List Float) (i most far next a b : ℕ) (u v : Float) → i < 10 → u ≡ at x i → v ≡ at y i →
+    (a ≡ placed u) × (a < 1073741824) → (b ≡ placed v) × (b < 1073741824) → far ≡ abs_diff a b →
+    next ≡ ord_max nat_cmp most far → Gone x y i most → Gone x y (i + 1) next
 unfolding steps_apart
-gone_more x y i most one next a b h p q o n g =
+gone_more x y i most far next a b u v h e k p q o n g =
     let f : ℕ → ℕ = λ j. between (placed (at x j)) (placed (at y j)) in
-    let is_one : one ≡ f i = o.0 ∙ ap (λ (k : ℕ). between k b) p.0 ∙ ap (between (placed (at x i))) q.0 in
+    let is_far : far ≡ between (placed (at x i)) (placed (at y i)) = cc in
     record {
       bound = omega arith;
-      is = n.0 ∙ ap (λ (k : ℕ). max k one) g.is ∙ ap (max (largest f i)) is_one ∙ sym (one_larger f i);
-      few = n.1;
+      is = n ∙ larger most far ∙ ap (λ (k : ℕ). max k far) g.is ∙ ap (max (largest f i)) is_far ∙ sym (one_larger f i);
+      few = below (n ∙ larger most far) o;
     }
+  where
+    below : next ≡ max most far → far ≡ (a - b) + (b - a) → next < 1073741824
+    below n o = omega (arith, g.few)
 
 pub gone_all : (x y : List Float) (i most : ℕ) → 10 ≤ i → Gone x y i most → (most ≡ steps_apart x y 10) × (most < 1073741824)
 gone_all x y i most h g =
@@ -128,7 +138,7 @@ largest_scaled f g G (suc n) h =
     before i n l = omega arith
 
 pub apart_is : (ends : Ends) (n : ℕ) → Steady ends.coder → Steady ends.decoder →
-    (n ≡ steps_apart ends.coder ends.decoder 10) × (n < 1073741824) → (n + 127) / 128 ≡ apart64 ends
+    (n ≡ steps_apart ends.coder ends.decoder 10) × (n < 1073741824) → div_ceil n 128 ≡ apart64 ends
 unfolding steps_apart apart64 up64
 apart_is ends n c d e =
     let x = ends.coder in
@@ -139,6 +149,9 @@ apart_is ends n c d e =
     let q = d.each i h in
     difference_steps (at x i) (at y i) p.multiple q.multiple
     ∙ ap (λ (k : ℕ). k * grid) (sym (placed_apart (at x i) (at y i) p.multiple q.multiple p.few q.few)) in
-    ap (λ (k : ℕ). (k + 127) / 128) e.0
+    rounded n ∙ ap (λ (k : ℕ). (k + 127) / 128) e.0
     ∙ sym (rounded_up (largest f 10) grid (pow_pos 136))
     ∙ ap (λ (k : ℕ). (k + 2 ^ 143 - 1) / 2 ^ 143) (sym (largest_scaled (apart_at ends) f grid 10 each))
+  where
+    rounded : (n : ℕ) → div_ceil n 128 ≡ (n + 127) / 128
+    rounded n = omega arith

@@ -1,10 +1,10 @@
 // How far both ends of a line lie apart (request E7), counted exactly: every frequency that the line holds is a whole multiple of 2^-13.
 #![tactic(auto)]
 
-ghost use Rattle.std.specs.Prelude.{◌≡◌, ◌<◌, max};
+ghost use Rattle.std.specs.Prelude.{◌≡◌, ◌<◌};
 ghost use Rattle.line_grid.specs.inner.Placed.{placed};
 ghost use Rattle.ends_apart.specs.Apart.{apart64};
-ghost use Rattle.ends_apart.specs.inner.Steps.{Counted, Steady, between as Steps·between, steps_apart};
+ghost use Rattle.ends_apart.specs.inner.Steps.{Counted, Steady, steps_apart};
 
 use line::Ends;
 
@@ -17,45 +17,23 @@ fn place(x: f32) -> u32
     (536870912 + steps) as u32
 }
 
-fn between(a: u32, b: u32) -> u32
-    requires { (a < 1073741824) × (b < 1073741824) }
-    ensures { (result ≡ Steps·between a b) × (result < 1073741824) }
-{
-    if a < b {
-        return b - a;
-    }
-    a - b
-}
-
-fn larger(a: u32, b: u32) -> u32
-    requires { (a < 1073741824) × (b < 1073741824) }
-    ensures { (result ≡ max a b) × (result < 1073741824) }
-{
-    if a < b {
-        return b;
-    }
-    a
-}
-
 // The largest distance of ten frequencies, in steps.
 fn steps_apart(x: [f32; 10], y: [f32; 10]) -> u32
     requires { Steady x × Steady y }
     ensures { (result ≡ steps_apart x y 10) × (result < 1073741824) }
 {
-    let mut most: u32 = 0;
-    for i in 0..10 {
-        let one = between(place(x[i]), place(y[i]));
-        most = larger(most, one);
+    let mut most = 0;
+    for (a, b) in x.iter().zip(&y) {
+        most = most.max(place(*a).abs_diff(place(*b)));
     }
     most
 }
 
 // In 1/64, of which each has 128 steps, and rounded up.
+#[tactic(auto, using(crate::proofs::Counting::apart_is))]
 pub fn apart_64(ends: Ends) -> u32
     requires { Steady ends.coder × Steady ends.decoder }
     ensures { result ≡ apart64 ends }
 {
-    let coder = ends.coder;
-    let decoder = ends.decoder;
-    (steps_apart(coder, decoder) + 127) / 128
+    steps_apart(ends.coder, ends.decoder).div_ceil(128)
 }

@@ -1,6 +1,7 @@
 -- Laws that other crates cite.
 pub mod Table
 pub mod Mapped
+pub mod FromFn
 pub mod Loop
 pub mod Change
 pub mod Turns
@@ -27,8 +28,11 @@ pub mod Whole
 pub mod Patterns
 mod Compare
 mod Narrowing
-mod Signs
+pub mod Signs
 pub mod Blocks
 pub mod Pattern
+pub mod One
 pub mod Parts
 pub mod Refusal
+pub mod Lines
+mod Lists

@@ -1,14 +1,15 @@
 -- A pattern taken apart into its sign's bit and the rest, the rest narrowed, and the two put together again: the double narrowed. Assumes nothing.
-use mathlib.Core.Path.{◌≡◌, sym, ap, ◌∙◌, subst}
+use mathlib.Core.Path.{◌≡◌, refl, sym, ap, ◌∙◌, subst}
 use mathlib.Core.Logic.{inl, inr}
 use Prim.Native.Nat.{ℕ, ◌+◌, ◌*◌, ◌/◌, ◌%◌, ◌^◌, ◌≤◌, ◌<◌}
 use native.Mathlib.Nat.{eq-zero-or-pos, mod-lt, zero-add}
 use native.Mathlib.Omega.{arith}
-use mathlib.Core.Bool.{Bool, false, not}
+use mathlib.Core.Bool.{Bool, true, false, not}
 use lib.Arith.{le→nltb}
 use lib.Dec.{T, nltb→le}
+use borrow.Author.Tests.{eq-eqb}
 use lib.Pow.{pow_pos}
-use lib.Ieee.{Float, nan, inf, fin, Format, binary32, binary64, fits, is_nan, nan_bits, hid, ones, top, neg, ne, of_bits, to_bits}
+use lib.Ieee.{Float, nan, inf, fin, Format, binary32, binary64, fits, is_nan, nan_bits, hid, ones, top, neg, ne, of_bits, to_bits, up, down}
 use lib.Ieee.Bits.{of_bits-to_bits, to_bits-lt, nan_bits_is, nan_bits_above}
 use lib.Ieee.Compare.{nan_differs}
 use Rattle.float.specs.Narrow.{narrow}
@@ -17,6 +18,15 @@ use Rattle.float.proofs.Patterns.{of_bits_neg}
 use Rattle.float.proofs.Rounded.{rounded_fits, rounded_neg}
 
 -- ---- what is no NaN
+-- a NaN, and no other value, differs from itself
+pub nan_code : (x : Float) → is_nan x ≡ ne x x
+unfolding is_nan ne
+nan_code nan = refl
+nan_code (inf true) = refl
+nan_code (inf false) = refl
+nan_code (fin true m e) = rw (eq-eqb (m * up e * down e) (m * up e * down e) refl)
+nan_code (fin false m e) = rw (eq-eqb (m * up e * down e) (m * up e * down e) refl)
+
 pub not_nan : (x : Float) → ne x x ≡ false → T (not (is_nan x))
 unfolding is_nan
 not_nan nan h = subst T (sym nan_differs ∙ h) tt

@@ -2,6 +2,7 @@
 pub mod Table
 pub mod Loop
 pub mod Refusal
+pub mod Answered
 pub mod Finite
 pub mod Single
 pub mod Double

@@ -11,22 +11,19 @@ fn nan_pattern(w: u32) -> bool
     w % 0x8000_0000 > 0x7f80_0000
 }
 
-// The single with the pattern w. f32::from_bits leaves out the patterns of NaNs.
+// The single with the pattern w. `f32::from_bits` leaves out the patterns of NaNs.
 pub fn of_bits(w: u32) -> f32
     ensures { result ≡ of_bits binary32 w }
 {
-    if nan_pattern(w) {
-        return 0.0f32 / 0.0;
-    }
-    f32::from_bits(w)
+    std::num::f32_from_bits_with_nan(w)
 }
 
 // x has the pattern w, or both are NaNs.
 pub fn same_bits(x: f32, w: u32) -> bool
     ensures { result ≡ same_pattern binary32 x w }
 {
-    if x != x {
+    if x.is_nan() {
         return nan_pattern(w);
     }
-    f32::to_bits(x) == w
+    x.to_bits() == w
 }

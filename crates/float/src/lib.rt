@@ -1,26 +1,27 @@
-// Tests of singles that the refusals stand on, and the one rounding that Rattle's casts leave out.
+// Tests of singles that the refusals stand on, and the rounding of a double to single.
 #![tactic(auto)]
 
 mod bits;
+pub mod status;
 
-ghost use Rattle.std.specs.Prelude.{◌≡◌, [], ◌∷◌, ◌^◌, ◌≤◌, ◌<◌};
+ghost use Rattle.std.specs.Prelude.{◌≡◌, [], ◌∷◌, ◌^◌, ◌≤◌, ◌<◌, map};
 ghost use Rattle.std.specs.Float.{binary32, binary64};
 ghost use Rattle.std.specs.Float.Ieee.{of_bits, to_bits};
 ghost use Rattle.std.specs.Float.Ieee.Scale.{finite};
 ghost use Rattle.float.specs.Refusal.{all, any, first};
 ghost use Rattle.float.specs.Finite.{not_finite, exceeds, any_exceeds};
-ghost use Rattle.float.specs.Lines.{refused_lines};
+ghost use Rattle.float.specs.Answered.{status_of};
 ghost use Rattle.float.specs.inner.HalfEven.{half_even};
 ghost use Rattle.float.specs.Narrow.{narrow};
 
 pub use bits::{of_bits, same_bits};
+use status::Refusal;
 
 // Neither infinite nor a NaN.
 pub fn is_finite(x: f32) -> bool
     ensures { result ≡ finite x }
 {
-    let infinity = 1.0f32 / 0.0;
-    (-infinity < x) & (x < infinity)
+    x.is_finite()
 }
 
 // Every element is finite. All are tested, with no early end, so that several are tested at once.
@@ -28,9 +29,8 @@ pub fn all_finite(s: &[f32]) -> bool
     ensures { result ≡ all finite s.now }
 {
     let mut passed = true;
-    for i in 0..s.len() {
-        let one = is_finite(s[i]);
-        passed = passed & one;
+    for x in s {
+        passed &= is_finite(*x);
     }
     passed
 }
@@ -46,52 +46,37 @@ pub fn exceeds_bound(x: f32, bound: f32) -> bool
 pub fn any_exceeds(s: &[f32], bound: f32) -> bool
     ensures { result ≡ any (exceeds bound) s.now }
 {
-    let mut i = 0;
-    while i < s.len() {
-        if exceeds_bound(s[i], bound) {
-            return true;
-        }
-        i += 1;
-    }
-    false
+    s.iter().any(|x| exceeds_bound(*x, bound))
 }
 
 // The two lists of refusals that most operations have: 5; 5, then 6 above a bound in magnitude.
-pub fn check_finite(s: &[f32]) -> u32
-    ensures { result ≡ first ((5, not_finite s.now) ∷ []) }
+pub fn check_finite(s: &[f32]) -> Result<(), Refusal>
+    ensures { status_of result ≡ first ((5, not_finite s.now) ∷ []) }
 {
     if !all_finite(s) {
-        return 5;
+        return Err(Refusal::NotFinite);
     }
-    0
+    Ok(())
 }
 
-pub fn check_bounded(s: &[f32], bound: f32) -> u32
-    ensures { result ≡ first ((5, not_finite s.now) ∷ (6, any_exceeds bound s.now) ∷ []) }
+pub fn check_bounded(s: &[f32], bound: f32) -> Result<(), Refusal>
+    ensures { status_of result ≡ first ((5, not_finite s.now) ∷ (6, any_exceeds bound s.now) ∷ []) }
 {
-    if !all_finite(s) {
-        return 5;
-    }
+    check_finite(s)?;
     if any_exceeds(s, bound) {
-        return 6;
+        return Err(Refusal::OutOfRange);
     }
-    0
+    Ok(())
 }
 
-// What an operation answers that makes ten lines, cosines or frequencies: the lines, or a refusal's number and zeros.
-#[derive(Drop)]
-pub struct Lines {
-    pub status: u32,
-    pub lines: [f32; 10],
-}
-
-pub fn refused_lines(status: u32) -> Lines
-    ensures { result ≡ refused_lines status }
+// The first of them for several lists at once.
+pub fn check_lists(lists: &[&[f32]]) -> Result<(), Refusal>
+    ensures { status_of result ≡ first ((5, any not_finite (map (λ list. list.now) lists.now)) ∷ []) }
 {
-    Lines {
-        status,
-        lines: [0.0; 10],
+    for list in lists {
+        check_finite(list)?;
     }
+    Ok(())
 }
 
 // d / 2^k to the nearest whole number, a tie to the even one.
@@ -123,14 +108,15 @@ fn narrow_magnitude(m: u64) -> u64
     0
 }
 
-// Double to single: to nearest, ties to even.
+// Double to single: to nearest, ties to even. The library's `nearest_f64_to_f32_with_nan` says the same; it goes by 128 bits and takes 2.6
+// times as long, and a conversion of ten lines narrows ten times (docs/BENCH.md).
 pub fn narrow(x: f64) -> f32
     ensures { result ≡ narrow x }
 {
-    if x != x {
-        return 0.0f32 / 0.0;
+    if x.is_nan() {
+        return f32::NAN;
     }
-    let bits = f64::to_bits(x);
+    let bits = x.to_bits();
     let sign = bits >> 63;
     let magnitude = narrow_magnitude(bits % (1 << 63));
     f32::from_bits((sign * 0x8000_0000 + magnitude) as u32)

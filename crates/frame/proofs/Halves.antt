@@ -4,32 +4,36 @@ use mathlib.Core.Path.{◌≡◌, refl, sym, ap, ◌∙◌}
 use mathlib.Core.List.{List, [], ◌∷◌, ◌++◌}
 use Prim.Native.Nat.{ℕ, zero, suc}
 use native.Mathlib.Omega.{arith}
-use borrow.Author.Tests.{eqb-true, not-true, not-false}
-use mathlib.Core.Bool.{Bool, true, false, not}
-use lib.Dec.{eqb}
 use lib.IntN.{ℤ}
-use lib.ListN.{length}
+use lib.ListN.{length, get_or}
 use lib.Ieee.{Float}
 use Rattle.float.specs.Refusal.{first_of, answer}
-use Rattle.float.proofs.Refusal.{answer_refused, answer_done}
-use Rattle.spec_lsp.specs.declared.quantise.Quantised.{Quantised}
+use Rattle.float.specs.Answered.{number}
+use Rattle.float.specs.declared.status.Refusal.{Refusal}
+use Rattle.float.proofs.Refusal.{answer_number}
+use Rattle.std.specs.Prelude.{Result}
+use Rattle.std.specs.Result.{IsErrAnd}
+use Rattle.std.proofs.lemmas.Result.{err_from_is_err_and}
+use Rattle.spec_lsp.specs.declared.quantise.Quantised.{Quantised as QuantisedMade}
+use Rattle.spectrum.specs.declared.Spectrum.{Spectrum as SpectrumMade}
+use Rattle.voice.specs.declared.Voice.{Voice as VoiceMade}
+use Rattle.frame.specs.declared.Frame.{Frame as FrameMade}
+use Rattle.spec_lsp.specs.Quantise.{Quantised, as_quantised}
 use Rattle.frame_parts.specs.Parts.{singles}
-use Rattle.frame_parts.specs.declared.Filters.{Filters}
-use Rattle.frame_parts.proofs.Statuses.{last_of, in_turn_lem}
-use Rattle.spectrum.specs.declared.Spectrum.{Spectrum}
+use Rattle.frame_parts.specs.Four.{Filters, four_of}
+use Rattle.frame_parts.proofs.Told.{first_told}
+use Rattle.frame_parts.proofs.Statuses.{last_of}
 use Rattle.spectrum.specs.Lines.{lines, stabilised}
 use Rattle.spectrum.specs.Filters.{filters, joined}
-use Rattle.spectrum.specs.inner.Spectrum.{spectrum}
+use Rattle.spectrum.specs.inner.Spectrum.{Spectrum, done_spectrum, spectrum}
 use Rattle.frame_pitch.specs.Pitch.{pitches, shapings}
 use Rattle.frame_pitch.specs.inner.Tone.{tone}
 use Rattle.frame_pitch.proofs.Stages.{tone_status, tone_parts}
-use Rattle.voice.specs.declared.Voice.{Voice}
 use Rattle.voice.specs.Weighting.{weighting}
-use Rattle.voice.specs.inner.Voice.{voice}
+use Rattle.voice.specs.inner.Voice.{Voice, done_voice, voice}
 use Rattle.frame.specs.declared.Coder.{Coder}
-use Rattle.frame.specs.declared.Frame.{Frame}
 use Rattle.frame.specs.Windows.{windows}
-use Rattle.frame.specs.Frame.{refusal, after, coded, code_frame}
+use Rattle.frame.specs.Frame.{Frame, as_frame, refusal, after, coded, code_frame}
 use Rattle.frame.specs.inner.Halves.{finished, of_lines}
 
 together : (ss ts : List ℕ) → first_of (ss ++ ts) ≡ answer (first_of ss) (λ n. n) (first_of ts)
@@ -86,30 +90,52 @@ halved rows coder x hz =
     ∙ same_answer (all t.status) (refusal coder) own (finished (spectrum_of coder l hz) (voice_of coder w x))
     (λ e. rw (tone_parts v.speech (last_clear w.status first v.status t.status e)))
 
--- what was answered: s and v, and the first status n of them and of the windows
-module _ (coder : Coder) (w : Filters) (l : Quantised) (x : List Float) (hz : Float) (s : Spectrum) (v : Voice) (p n : ℕ)
-    (es : s ≡ spectrum_of coder l hz) (ev : v ≡ voice_of coder w x)
-    (ep : p ≡ answer s.status (λ k. k) v.status) (en : n ≡ answer w.status (λ k. k) p) where
-  frame_of : answer n (refusal coder) (finished s v) ≡ of_lines coder w l x hz
+-- ---- a frame of 360 samples, whatever the rows
+-- what refuses is the first of the statuses that is not 0, and the code ends there
+first_refuses : (coder : Coder) (done : Frame) (e : Refusal) (n : ℕ) → n ≡ number e →
+    refusal coder (number e) ≡ answer n (refusal coder) done
+first_refuses coder done e n h = rw h (answer_number e (refusal coder) done)
+
+module _ (rows : List ℤ) (coder : Coder) (samples : List ℤ) (hz : Float) (long : length samples ≡ 360) (x : List Float)
+    (ex : x ≡ singles samples) where
+  halves : code_frame rows coder samples hz ≡ of_lines coder (windows x) (lines rows (windows x).a3 coder.set) x hz
+  unfolding code_frame
+  halves = rw (long, ex) (halved rows coder (singles samples) hz)
+
+  pub windows_refuse : (e : Refusal) → (windows x).status ≡ number e → refusal coder (number e) ≡ code_frame rows coder samples hz
   unfolding of_lines
-  frame_of = rw (in_turn_lem w.status s.status v.status p n ep en, ev, es)
+  windows_refuse e h = rw halves (first_refuses coder _ e _ (first_told e _ h))
 
-  pub frame_refused : {r : Frame} → (n ≡ 0 → ⊥) → r ≡ refusal coder n → r ≡ of_lines coder w l x hz
-  frame_refused h e = answer_refused (refusal coder) (finished s v) refl h e ∙ frame_of
+  module _ (w : List (List Float)) (ew : windows x ≡ four_of w) where
+    abbrev line : List Float
+    line = get_or w 3 []
 
-  pub frame_finished : {r : Frame} → n ≡ 0 → r ≡ finished s v → r ≡ of_lines coder w l x hz
-  frame_finished h e = answer_done (refusal coder) refl h e ∙ frame_of
+    after_windows : code_frame rows coder samples hz ≡ of_lines coder (four_of w) (lines rows line coder.set) x hz
+    after_windows = halves ∙ rw ew
 
--- ---- a frame of 16-bit samples, whatever the rows
-pub is_whole : (samples : List ℤ) {b : Bool} → b ≡ eqb (length samples) 360 → not b ≡ false → length samples ≡ 360
-is_whole samples {b} e h = eqb-true (length samples) 360 (sym e ∙ not-false b h)
+    module _ (l : Result QuantisedMade Refusal) (el : as_quantised l ≡ lines rows line coder.set) where
+      after_lines : code_frame rows coder samples hz ≡ of_lines coder (four_of w) (as_quantised l) x hz
+      after_lines = after_windows ∙ rw (← el)
 
-module _ (rows : List ℤ) (coder : Coder) (samples : List ℤ) (hz : Float) {b : Bool} (eb : b ≡ eqb (length samples) 360) {r : Frame} where
-  pub no_frame : not b ≡ true → r ≡ refusal coder 8 → r ≡ code_frame rows coder samples hz
-  unfolding code_frame
-  no_frame h e = rw (← eb, not-true b h) e
+      pub spectrum_refuses : (e : Refusal) → (spectrum (as_quantised l) coder.lines hz).status ≡ number e →
+          refusal coder (number e) ≡ code_frame rows coder samples hz
+      unfolding of_lines
+      spectrum_refuses e h = rw after_lines (first_refuses coder _ e _ (first_told e _ h))
 
-  pub whole_frame : {x : List Float} {w : Filters} {l : Quantised} → not b ≡ false → x ≡ singles samples → w ≡ windows x →
-      l ≡ lines rows w.a3 coder.set → r ≡ of_lines coder w l x hz → r ≡ code_frame rows coder samples hz
-  unfolding code_frame
-  whole_frame {x} h ex ew el e = rw (← eb, not-false b h, ← ex) (e ∙ rw (el, ew) (sym (halved rows coder x hz)))
+      module _ (s : SpectrumMade) (es : spectrum (as_quantised l) coder.lines hz ≡ done_spectrum s) where
+        pub voice_refuses : (e : Refusal) → (voice_of coder (four_of w) x).status ≡ number e →
+            refusal coder (number e) ≡ code_frame rows coder samples hz
+        unfolding of_lines
+        voice_refuses e h = rw (after_lines, es) (first_refuses coder _ e _ (first_told e _ h))
+
+        pub finishes : (v : VoiceMade) → voice_of coder (four_of w) x ≡ done_voice v →
+            finished (done_spectrum s) (done_voice v) ≡ code_frame rows coder samples hz
+        unfolding of_lines
+        finishes v ev = rw (after_lines, es, ev)
+
+-- at a `?`
+pub framed : (coder : Coder) (f : Frame) (r : Result FrameMade Refusal) (e : Refusal) → IsErrAnd r (λ y. y ≡ e) →
+    refusal coder (number e) ≡ f → as_frame coder r ≡ f
+framed coder f r e h g = let p = err_from_is_err_and r h in rw (p.1, p.2) g
+
+pub ruleset stages = (windows_refuse, spectrum_refuses, voice_refuses, finishes, framed)

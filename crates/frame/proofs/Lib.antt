@@ -1,1 +1,3 @@
+-- Laws behind the functions' proofs.
 mod Halves
+mod Windows

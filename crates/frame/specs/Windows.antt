@@ -2,10 +2,9 @@
 -- Document 02, E2.3 and E2.4; §2.4. Assumes nothing.
 use Rattle.std.specs.Prelude.{ℕ, List, Float}
 use Rattle.lpc.specs.Analysis.{lpc_analysis}
-use Rattle.lsp_filter.specs.declared.LpcCoefficients.{LpcCoefficients}
-use Rattle.frame_parts.specs.declared.Filters.{Filters}
+use Rattle.lsp_filter.specs.Polynomial.{LpcCoefficients}
 use Rattle.frame_parts.specs.Parts.{window}
-use Rattle.frame_parts.specs.Four.{four}
+use Rattle.frame_parts.specs.Four.{Filters, four}
 
 -- the filter of window s
 abbrev pub predictor : List Float → ℕ → LpcCoefficients

@@ -1,23 +1,22 @@
-// One call a frame (request E2): the stages of document 01 in a chain. Every stage runs, on the zeros of a refused one, and the first
-// status that is not 0 refuses the frame.
+// One call a frame (request E2): the stages of document 01 in a chain. The first of them that refuses refuses the frame.
 #![tactic(auto)]
 
-ghost use Rattle.std.specs.Prelude.{◌≡◌, eqb, length};
+ghost use Rattle.std.specs.Prelude.{◌≡◌};
 ghost use Rattle.spec_tables.specs.Codebook.{lsp_rows};
+ghost use Rattle.frame_parts.specs.Four.{four_of};
+ghost use Rattle.frame_parts.specs.inner.Told.{Told};
 ghost use Rattle.frame.specs.Coder.{new_coder};
 ghost use Rattle.frame.specs.Windows.{windows};
-ghost use Rattle.frame.specs.Frame.{refusal, code_frame};
-ghost use Rattle.frame.specs.inner.Halves.{finished, of_lines};
+ghost use Rattle.frame.specs.Frame.{as_frame, code_frame};
 
-use frame_parts::Filters;
+use float::status::Refusal;
 use pitch::HnsParams;
-use spec_lsp::quantise::Quantised;
 use spec_lsp::resting;
 use spectrum::Spectrum;
 use voice::Voice;
 
 // What a coder keeps between frames.
-#[derive(Clone, Copy)]
+#[derive(Clone, Copy, PartialEq)]
 pub struct Coder {
     // the line frequencies that the decoder has
     pub set: [f32; 10],
@@ -31,9 +30,8 @@ pub struct Coder {
 }
 
 // One frame coded: what is sent of it, its four filters one after the other, and the memories after it.
-#[derive(Clone, Copy)]
+#[derive(Clone, Copy, PartialEq)]
 pub struct Frame {
-    pub status: u32,
     pub index: u32,
     pub pitch: [u32; 2],
     pub shaping: [HnsParams; 4],
@@ -47,69 +45,57 @@ impl Coder {
         ensures { result ≡ new_coder }
     {
         let set = resting::resting_set();
-        let cosines = convert::lsp_freq_to_cosines(set);
-        let lines = cosines.lines;
+        let lines = convert::lsp_freq_to_cosines(set).unwrap_or([0.0; 10]);
         Self {
             set,
             lines,
-            x_mem: [0.0f32; 10],
-            f_mem: [0.0f32; 10],
-            weighted: [0.0f32; 145],
+            x_mem: [0.0; 10],
+            f_mem: [0.0; 10],
+            weighted: [0.0; 145],
         }
     }
 }
 
-fn windows_of(x: &[f32]) -> Filters
-    requires { length x.now ≡ 360 }
-    ensures { result ≡ windows x.now }
+// The filter of each window.
+#[tactic(auto, using(frame_parts::proofs::Told::tells, crate::proofs::Windows::analysed), unfolding(crate::specs::Windows::windows))]
+fn windows_of(x: &[f32; 360]) -> Result<[[f32; 11]; 4], Refusal>
+    ensures { Told (λ w. w.status) four_of result (windows x.now) }
 {
-    let w0 = lpc::lpc_analysis(&x[0..180]);
-    let w1 = lpc::lpc_analysis(&x[60..240]);
-    let w2 = lpc::lpc_analysis(&x[120..300]);
-    let w3 = lpc::lpc_analysis(&x[180..360]);
-    let status = frame_parts::first_of_four(w0.status, w1.status, w2.status, w3.status);
-    let s0 = w0.set;
-    let s1 = w1.set;
-    let s2 = w2.set;
-    let s3 = w3.set;
-    let a0 = s0.a;
-    let a1 = s1.a;
-    let a2 = s2.a;
-    let a3 = s3.a;
-    Filters {
-        status,
-        a0,
-        a1,
-        a2,
-        a3,
-    }
+    Ok([
+        lpc::lpc_analysis(&x[0..180])?.a,
+        lpc::lpc_analysis(&x[60..240])?.a,
+        lpc::lpc_analysis(&x[120..300])?.a,
+        lpc::lpc_analysis(&x[180..360])?.a,
+    ])
 }
 
-pub fn refused(status: u32, coder: Coder) -> Frame
-    ensures { result ≡ refusal coder status }
+// One frame over rows that the caller lends: 60 samples before it, its 240, 60 after it. On a refusal the coder is as it was.
+#[tactic(auto, using(float::proofs::Refusal::exits, crate::proofs::Halves::stages), unfolding(crate::specs::Frame::code_frame))]
+pub fn code_in(
+    rows: &[i16; 2560],
+    coder: Coder,
+    samples: &[i16],
+    spacing_hz: f32,
+) -> Result<Frame, Refusal>
+    ensures { as_frame coder result ≡ code_frame rows.now coder samples.now spacing_hz }
 {
-    Frame {
-        status,
-        index: 0,
-        pitch: [0; 2],
-        shaping: [HnsParams { lag: 0, beta: 0.0 }; 4],
-        a: [0.0f32; 44],
-        coder,
-    }
-}
-
-// The frame of both halves.
-fn finish(s: Spectrum, v: Voice) -> Frame
-    ensures { result ≡ finished s v }
-{
-    let set = s.set;
-    let lines = s.lines;
-    let a = s.a;
-    let pitch = v.pitch;
-    let shaping = v.shaping;
-    let x_mem = v.x_mem;
-    let f_mem = v.f_mem;
-    let weighted = v.weighted;
+    let samples = samples.as_array().ok_or(Refusal::FrameLength)?;
+    let x = frame_parts::to_singles(samples);
+    let windows = windows_of(&x)?;
+    let quantised = spectrum::lines_in(rows, windows[3], coder.set);
+    let Spectrum {
+        index,
+        set,
+        lines,
+        a,
+    } = spectrum::spectrum_of(quantised, coder.lines, spacing_hz)?;
+    let Voice {
+        pitch,
+        shaping,
+        x_mem,
+        f_mem,
+        weighted,
+    } = voice::voice_of(coder.x_mem, coder.f_mem, &coder.weighted, &windows, &x)?;
     let coder = Coder {
         set,
         lines,
@@ -117,71 +103,18 @@ fn finish(s: Spectrum, v: Voice) -> Frame
         f_mem,
         weighted,
     };
-    Frame {
-        status: 0,
-        index: s.index,
+    Ok(Frame {
+        index,
         pitch,
         shaping,
         a,
         coder,
-    }
+    })
 }
 
-// The frame of its windows and its quantised lines, after the memories of a coder.
-fn of_lines(coder: Coder, w: Filters, l: Quantised, x: &[f32], spacing_hz: f32) -> Frame
-    requires { length x.now ≡ 360 }
-    ensures { result ≡ of_lines coder w l x.now spacing_hz }
+// The same over the built-in rows.
+pub fn code_frame(coder: Coder, samples: &[i16], spacing_hz: f32) -> Result<Frame, Refusal>
+    ensures { as_frame coder result ≡ code_frame lsp_rows coder samples.now spacing_hz }
 {
-    let lines = coder.lines;
-    let x_mem = coder.x_mem;
-    let f_mem = coder.f_mem;
-    let weighted = coder.weighted;
-    let s = spectrum::spectrum_of(l, lines, spacing_hz);
-    let v = voice::voice_of(x_mem, f_mem, weighted, w, x);
-    let status = frame_parts::first_of(w.status, frame_parts::first_of(s.status, v.status));
-    if status != 0 {
-        return refused(status, coder);
-    }
-    finish(s, v)
-}
-
-// 60 samples before a frame, its 240, 60 after it.
-fn is_frame(samples: &[i16]) -> bool
-    ensures { result ≡ eqb (length samples.now) 360 }
-{
-    samples.len() == 360
-}
-
-// One frame over the built-in rows. They are copied while the lines are looked for and are gone before the rest of the frame, which has
-// the stack to itself: so this is not `code_in` over a copy.
-pub fn code_frame(coder: Coder, samples: &[i16], spacing_hz: f32) -> Frame
-    ensures { result ≡ code_frame lsp_rows coder samples.now spacing_hz }
-{
-    if !is_frame(samples) {
-        return refused(8, coder);
-    }
-    let mut x = [0.0f32; 360];
-    frame_parts::to_singles(&mut x, samples);
-    let w = windows_of(&x);
-    let a3 = w.a3;
-    let set = coder.set;
-    let l = spectrum::lines_of(a3, set);
-    of_lines(coder, w, l, &x, spacing_hz)
-}
-
-// The same over rows that the caller lends.
-pub fn code_in(rows: &[i16], coder: Coder, samples: &[i16], spacing_hz: f32) -> Frame
-    requires { length rows.now ≡ 2560 }
-    ensures { result ≡ code_frame rows.now coder samples.now spacing_hz }
-{
-    if !is_frame(samples) {
-        return refused(8, coder);
-    }
-    let mut x = [0.0f32; 360];
-    frame_parts::to_singles(&mut x, samples);
-    let w = windows_of(&x);
-    let a3 = w.a3;
-    let set = coder.set;
-    let l = spectrum::lines_in(rows, a3, set);
-    of_lines(coder, w, l, &x, spacing_hz)
+    code_in(spec_tables::lsp_rows(), coder, samples, spacing_hz)
 }

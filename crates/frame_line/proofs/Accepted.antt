@@ -11,15 +11,13 @@ use lib.ListN.{length}
 use lib.Ieee.{Float}
 use Rattle.float.specs.Refusal.{first, answer}
 use Rattle.float.proofs.Refusal.{not_refused}
-use Rattle.spec_lsp.specs.Quantise.{refused_index, quantise_lsp_freq}
-use Rattle.spec_lsp.specs.declared.quantise.Quantised.{Quantised}
+use Rattle.spec_lsp.specs.Quantise.{Quantised, refused_index, quantise_lsp_freq}
 use Rattle.frame_parts.specs.Parts.{singles}
 use Rattle.spectrum.specs.Lines.{given, lines}
 use Rattle.spectrum.specs.Filters.{joined}
 use Rattle.frame.specs.declared.Coder.{Coder}
-use Rattle.frame.specs.declared.Frame.{Frame}
 use Rattle.frame.specs.Windows.{windows}
-use Rattle.frame.specs.Frame.{refusal, coded, code_frame}
+use Rattle.frame.specs.Frame.{Frame, refusal, coded, code_frame}
 use Rattle.frame_line.proofs.Chain.{line_stage, stable_stage, filter_stage, chain, done, coded_is}
 
 pub record Accepted (rows : List ℤ) (coder : Coder) (x : List Float) (hz : Float) (frame : Frame) : Type 0 where

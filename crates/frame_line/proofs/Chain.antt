@@ -7,18 +7,16 @@ use lib.IntN.{ℤ}
 use lib.ListN.{drop}
 use lib.Ieee.{Float}
 use Rattle.float.specs.Refusal.{first_of, answer}
-use Rattle.spec_lsp.specs.declared.quantise.Quantised.{Quantised}
-use Rattle.stability.specs.declared.Stabilised.{Stabilised}
-use Rattle.frame_parts.specs.declared.Filters.{Filters}
+use Rattle.spec_lsp.specs.Quantise.{Quantised}
+use Rattle.stability.specs.Stability.{Stabilised}
+use Rattle.frame_parts.specs.Four.{Filters}
 use Rattle.spectrum.specs.Lines.{lines, stabilised}
 use Rattle.spectrum.specs.Filters.{filters, joined}
-use Rattle.voice.specs.declared.Speech.{Speech}
-use Rattle.voice.specs.Weighting.{weighting}
+use Rattle.voice.specs.Weighting.{Speech, weighting}
 use Rattle.frame_pitch.specs.Pitch.{Lags, Shapings, pitches, shapings}
 use Rattle.frame.specs.declared.Coder.{Coder}
-use Rattle.frame.specs.declared.Frame.{Frame}
 use Rattle.frame.specs.Windows.{windows}
-use Rattle.frame.specs.Frame.{refusal, coded}
+use Rattle.frame.specs.Frame.{Frame, refusal, coded}
 
 module _ (rows : List ℤ) (coder : Coder) (x : List Float) where
   abbrev pub line_stage : Quantised

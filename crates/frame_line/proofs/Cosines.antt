@@ -19,7 +19,7 @@ use Rattle.float.specs.Narrow.{narrow}
 use Rattle.float.specs.Single.{◌⊕◌, ◌⊗◌, single}
 use Rattle.float.specs.Table.{table}
 use Rattle.float.specs.Vector.{at}
-use Rattle.float.specs.declared.Lines.{Lines}
+use Rattle.float.specs.Lines.{Lines}
 use Rattle.float.proofs.Range.{AtMost, Holds, at_most_wider, at_most_value, at_most_add, at_most_mul}
 use Rattle.float.proofs.Refusal.{clear, floats_shown, not_refused}
 use Rattle.cosine.specs.Cosine.{folded, cosine, cosine_single}
@@ -33,8 +33,7 @@ use Rattle.convert.specs.Convert.{cosine_of, freq_to_cosines}
 use Rattle.lsp_filter.specs.Interpolate.{previous_weight, current_weight, weighed, interpolate_lsp}
 use Rattle.lsp_filter.specs.Polynomial.{lsp_to_lpc}
 use Rattle.stability.specs.Spacing.{spacing, outside}
-use Rattle.stability.specs.Stability.{angle_of, cosine_of as stable_cosine, stable, done, refusal, spacing_refusals, enforced}
-use Rattle.stability.specs.declared.Stabilised.{Stabilised}
+use Rattle.stability.specs.Stability.{Stabilised, angle_of, cosine_of as stable_cosine, stable, done, refusal, spacing_refusals, enforced}
 use Rattle.stability.proofs.Bounded.{stable_bound}
 use Rattle.spectrum.specs.Lines.{stabilised}
 use Rattle.spectrum.specs.Filters.{filter_of, filters}

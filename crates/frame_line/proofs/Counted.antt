@@ -1,24 +1,17 @@
 -- One frame at both ends, by whether the coder accepts it; and what a count over a run of frames says of its first frame.
 -- Assumes nothing.
 use mathlib.Core.Path.{◌≡◌, refl, sym, subst}
-use mathlib.Core.Bool.{Bool, true, false, not, ◌&&◌, cond}
+use mathlib.Core.Bool.{Bool, true, false, ◌&&◌, cond}
 use mathlib.Core.List.{List, ◌∷◌}
-use Prim.Native.Nat.{ℕ, ◌+◌}
-use native.Mathlib.Omega.{arith}
 use lib.Dec.{T, eqb→eq}
 use lib.IntN.{ℤ}
+use Rattle.line.proofs.Counts.{zero_sum}
 use Rattle.frame_line.specs.Decoder.{decode_frame}
 use Rattle.frame_line.specs.Frames.{FrameTurn, FrameEnds, sent, accepts, frame_lost, frame_step, frame_tally, frame_losses}
 
 pub both_l : (a b : Bool) → T (a && b) → a ≡ true
 both_l true b h = refl
 both_l false b h = absurd h
-
--- accepted and not lost: it is brought
-pub brought : (s b : Bool) → s && not b ≡ false → s ≡ true → b ≡ true
-brought true true h e = refl
-brought true false h e = absurd (mathlib.Core.Bool.true≢false h)
-brought false b h e = absurd (mathlib.Core.Bool.true≢false (sym e))
 
 module _ (rows : List ℤ) where
   -- ---- one frame
@@ -51,16 +44,6 @@ module _ (rows : List ℤ) where
       go true h = subst P (sym (accepted_step ends t h)) (g h)
 
   -- ---- no loss in a run: none in its first frame, and none after it
-  zero_sum : (b : Bool) (n : ℕ) → cond b 1 0 + n ≡ 0 → (b ≡ false) × (n ≡ 0)
-  zero_sum true n h = absurd (bad n h)
-    where
-      bad : (n : ℕ) → 1 + n ≡ 0 → ⊥
-      bad n h = omega arith
-  zero_sum false n h = (refl, rest n h)
-    where
-      rest : (n : ℕ) → 0 + n ≡ 0 → n ≡ 0
-      rest n h = omega arith
-
   pub no_loss : (ends : FrameEnds) (t : FrameTurn) (ts : List FrameTurn) → frame_losses rows ends (t ∷ ts) ≡ 0 →
       (frame_lost rows ends t ≡ false) × (frame_losses rows (frame_step rows ends t) ts ≡ 0)
   unfolding frame_tally

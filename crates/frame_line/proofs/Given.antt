@@ -15,10 +15,9 @@ use lib.Ieee.Fits.{and_i}
 use lib.Ieee.Scale.{finite}
 use Rattle.float.specs.Refusal.{all, first, answer}
 use Rattle.float.specs.Finite.{power, not_finite, exceeds, any_exceeds}
-use Rattle.float.specs.Lines.{refused_lines}
+use Rattle.float.specs.Lines.{Lines, refused_lines}
 use Rattle.float.specs.Narrow.{narrow}
 use Rattle.float.specs.Single.{single}
-use Rattle.float.specs.declared.Lines.{Lines}
 use Rattle.float.proofs.Range.{AtMost, Holds, at_most_wider, at_most_exceeds, round_at_most}
 use Rattle.cosine.specs.Step.{held, step, frequency}
 use Rattle.cosine.proofs.Held.{step_held}

@@ -9,7 +9,7 @@ use Prim.Native.Nat.{ℕ}
 use lib.Dec.{T}
 use lib.IntN.{ℤ}
 use lib.Ieee.{Float}
-use Rattle.float.specs.declared.Lines.{Lines}
+use Rattle.float.specs.Lines.{Lines}
 use Rattle.spec_tables.specs.Bounds.{rows_pass}
 use Rattle.spec_lsp.specs.Decode.{decode_lsp_freq}
 use Rattle.spec_lsp.specs.Quantise.{quantise_lsp_freq}

@@ -11,14 +11,12 @@ use lib.Ieee.{Float}
 use lib.Ieee.Scale.{finite}
 use Rattle.float.specs.Refusal.{all, first}
 use Rattle.float.specs.Finite.{not_finite, any_exceeds}
-use Rattle.float.specs.Lines.{refused_lines}
+use Rattle.float.specs.Lines.{Lines, refused_lines}
 use Rattle.float.specs.Single.{single}
-use Rattle.float.specs.declared.Lines.{Lines}
 use Rattle.float.proofs.Refusal.{clear, or_clear, not_refused}
 use Rattle.spec_tables.specs.Bounds.{rows_pass}
 use Rattle.spec_lsp.specs.Decode.{decoded, decode_refusals, decode_lsp_freq}
-use Rattle.spec_lsp.specs.Quantise.{index_of, refused_index, quantised_as, quantise_refusals, quantise_by, quantise_lsp_freq}
-use Rattle.spec_lsp.specs.declared.quantise.Quantised.{Quantised}
+use Rattle.spec_lsp.specs.Quantise.{Quantised, index_of, refused_index, quantised_as, quantise_refusals, quantise_by, quantise_lsp_freq}
 use Rattle.line.specs.declared.Turn.{Turn}
 use Rattle.line.specs.declared.Ends.{Ends}
 use Rattle.line.specs.Line.{step, run}

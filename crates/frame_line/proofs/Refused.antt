@@ -11,8 +11,7 @@ use lib.Ieee.{Float}
 use Rattle.float.specs.Refusal.{first, answer}
 use Rattle.frame_parts.specs.Parts.{singles}
 use Rattle.frame.specs.declared.Coder.{Coder}
-use Rattle.frame.specs.declared.Frame.{Frame}
-use Rattle.frame.specs.Frame.{refusal, coded, code_frame}
+use Rattle.frame.specs.Frame.{Frame, refusal, coded, code_frame}
 use Rattle.frame_line.proofs.Chain.{chain, done, coded_is}
 
 -- where what is answered otherwise is a refusal unless its status is 0, so is the whole answer

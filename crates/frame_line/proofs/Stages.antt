@@ -20,7 +20,7 @@ use Rattle.float.specs.Finite.{not_finite}
 use Rattle.float.proofs.Refusal.{floats_shown}
 use Rattle.spec_tables.specs.Bounds.{rows_pass, all_inside}
 use Rattle.spec_tables.specs.Codebook.{neg}
-use Rattle.spec_lsp.specs.declared.quantise.Quantised.{Quantised}
+use Rattle.spec_lsp.specs.Quantise.{Quantised}
 use Rattle.stability.specs.Spacing.{outside}
 use Rattle.frame_parts.specs.Parts.{singles}
 use Rattle.spectrum.specs.Lines.{given, lines, stabilised}
@@ -28,9 +28,8 @@ use Rattle.spectrum.specs.Filters.{filters}
 use Rattle.voice.specs.Weighting.{weighting}
 use Rattle.frame_pitch.specs.Pitch.{pitches, shapings}
 use Rattle.frame.specs.declared.Coder.{Coder}
-use Rattle.frame.specs.declared.Frame.{Frame}
 use Rattle.frame.specs.Windows.{windows}
-use Rattle.frame.specs.Frame.{refusal, code_frame}
+use Rattle.frame.specs.Frame.{Frame, refusal, code_frame}
 use Rattle.line.specs.Line.{step}
 use Rattle.frame_line.specs.Frames.{FrameTurn, FrameEnds, begin, frame_run}
 use Rattle.frame_line.proofs.Accepted.{lines_given}

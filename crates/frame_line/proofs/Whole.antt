@@ -34,7 +34,8 @@ use Rattle.frame_line.specs.Frames.{
 }
 use Rattle.frame_line.specs.Claim.{WholeFrames}
 use Rattle.frame_line.proofs.Accepted.{accepted, lines_given}
-use Rattle.frame_line.proofs.Counted.{both_l, brought, after, sent_done, each_frame, no_loss}
+use Rattle.line.proofs.Counts.{brought}
+use Rattle.frame_line.proofs.Counted.{both_l, after, sent_done, each_frame, no_loss}
 
 -- what a decoder has in common with a coder
 record Alike (coder : Coder) (decoder : Decoder) : Type 0 where

@@ -20,8 +20,7 @@ use Rattle.float.proofs.Whole.{whole}
 use Rattle.spec_tables.specs.Bounds.{inside, all_inside}
 use Rattle.spec_tables.specs.Codebook.{neg}
 use Rattle.correlation.specs.Correlation.{sums}
-use Rattle.lpc.specs.Analysis.{set_of, lpc_analysis}
-use Rattle.lpc.specs.declared.LpcAnalysis.{LpcAnalysis}
+use Rattle.lpc.specs.Analysis.{LpcAnalysis, set_of, lpc_analysis}
 use Rattle.frame_parts.specs.Parts.{singles, part}
 use Rattle.frame.specs.Windows.{windows}
 use Rattle.frame_line.proofs.Finite.{is_true}

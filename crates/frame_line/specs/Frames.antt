@@ -5,10 +5,9 @@ use Rattle.std.specs.Prelude.{ℕ, ◌+◌, Bool, ◌&&◌, not, cond, List, [],
 use Rattle.frame_parts.specs.Parts.{singles}
 use Rattle.spectrum.specs.Lines.{given}
 use Rattle.frame.specs.declared.Coder.{Coder}
-use Rattle.frame.specs.declared.Frame.{Frame}
 use Rattle.frame.specs.Coder.{new_coder}
 use Rattle.frame.specs.Windows.{windows}
-use Rattle.frame.specs.Frame.{code_frame}
+use Rattle.frame.specs.Frame.{Frame, code_frame}
 use Rattle.line.specs.declared.Turn.{Turn}
 use Rattle.frame_line.specs.Decoder.{Decoder, new_decoder, decode_frame}
 

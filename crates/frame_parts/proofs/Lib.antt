@@ -1,3 +1,3 @@
 -- Laws that other crates cite.
-pub mod Begins
 pub mod Statuses
+pub mod Told

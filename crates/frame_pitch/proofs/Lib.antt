@@ -1,2 +1,3 @@
 -- Laws that other crates cite.
 pub mod Stages
+pub mod Range

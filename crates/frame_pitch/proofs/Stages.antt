@@ -19,7 +19,7 @@ use Rattle.pitch.specs.Shaping.{settings, harmonic_noise_shaping}
 use Rattle.pitch.specs.inner.Readable.{Half}
 use Rattle.pitch.proofs.Limit.{in_range}
 use Rattle.frame_pitch.specs.declared.HalfTone.{HalfTone}
-use Rattle.frame_pitch.specs.declared.Tone.{Tone}
+use Rattle.frame_pitch.specs.inner.Tone.{Tone}
 use Rattle.frame_pitch.specs.Pitch.{pitches, shapings}
 use Rattle.frame_pitch.specs.inner.Tone.{half_tone, refused_tone, tone}
 

@@ -4,9 +4,8 @@
 use Rattle.std.specs.Prelude.{ℕ, ◌+◌, ◌*◌, ◌/◌, List, [], ◌∷◌, Float, get_or}
 use Rattle.float.specs.Refusal.{first_of}
 use Rattle.pitch.specs.Pitch.{open_loop_pitch}
-use Rattle.pitch.specs.Shaping.{harmonic_noise_shaping}
+use Rattle.pitch.specs.Shaping.{Shaping, harmonic_noise_shaping}
 use Rattle.pitch.specs.declared.HnsParams.{HnsParams}
-use Rattle.pitch.specs.declared.Shaping.{Shaping}
 
 -- the lags of both halves
 pub record Lags : Type 0 where

@@ -3,10 +3,9 @@
 use Rattle.std.specs.Prelude.{ℕ, List, ◌∷◌, Float}
 use Rattle.float.specs.Single.{single}
 use Rattle.float.specs.Vector.{zeros}
-use Rattle.combined.specs.declared.CombinedOut.{CombinedOut}
 use Rattle.combined.specs.Memory.{at_rest}
 use Rattle.combined.specs.Cascade.{Settings}
-use Rattle.combined.specs.Run.{run_combined, answered}
+use Rattle.combined.specs.Run.{CombinedOut, run_combined, answered}
 
 abbrev pub impulse : List Float
 impulse = single 1 1 ∷ zeros 59

@@ -11,7 +11,7 @@ use lib.Ieee.{Float, lt, le}
 use Rattle.float.specs.Loop.{times}
 use Rattle.float.proofs.Loop.{one_more}
 use Rattle.float.proofs.Strict.{lt_le, lt_self, lt_le_trans}
-use Rattle.lags.specs.declared.Best.{Best}
+use Rattle.lags.specs.Search.{Best}
 use Rattle.lags.specs.Lags.{cross, power, positive, ratio_of}
 use Rattle.lags.specs.Search.{nothing, challenged, offered, winner, greater}
 use Rattle.lags.proofs.Standing.{one_answer, Silent, silent_times}

@@ -19,7 +19,7 @@ use Rattle.float.specs.Difference.{negative}
 use Rattle.float.proofs.Loop.{one_more}
 use Rattle.float.proofs.Strict.{lt_le, lt_not_le, lt_le_trans}
 use Rattle.float.proofs.Growth.{square_sign, quotient_sign, above_sign, product_exceeds}
-use Rattle.lags.specs.declared.Best.{Best}
+use Rattle.lags.specs.Search.{Best}
 use Rattle.lags.specs.Lags.{cross, power, positive, counts, ratio_of, ratio}
 use Rattle.lags.specs.Search.{nothing, challenged, offered, winner, preferred}
 use Rattle.lags.proofs.Standing.{one_answer, Silent, silent_times}

@@ -13,7 +13,7 @@ use lib.Dec.{T}
 use lib.Ieee.{Float}
 use Rattle.float.specs.Loop.{times}
 use Rattle.float.proofs.Loop.{one_more}
-use Rattle.lags.specs.declared.Best.{Best}
+use Rattle.lags.specs.Search.{Best}
 use Rattle.lags.specs.Lags.{cross, power, positive, counts, ratio_of, ratio}
 use Rattle.lags.specs.Search.{Rule, nothing, challenged, offered, winner}
 

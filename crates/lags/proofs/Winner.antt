@@ -12,7 +12,7 @@ use lib.Ieee.{Float}
 use Rattle.float.specs.Loop.{over}
 use Rattle.float.proofs.Loop.{keeps}
 use Rattle.float.proofs.Blocks.{same_reached}
-use Rattle.lags.specs.declared.Best.{Best}
+use Rattle.lags.specs.Search.{Best}
 use Rattle.lags.specs.Lags.{cross, power, positive, ratio_of}
 use Rattle.lags.specs.Search.{Rule, nothing, challenged, offered, winner, preferred, greater}
 

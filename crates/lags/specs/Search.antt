@@ -1,12 +1,18 @@
 -- A search over lags a, .., b - 1: the first lag that counts wins, and a later one takes its place where the rule `beats` says so.
 -- §2.9, §2.11; document 01, B49, B50 and B52. What the winner is, whatever the rule: proofs/Winner.antt, proofs/Standing.antt; and by
 -- either rule: proofs/Preferred.antt, proofs/Greatest.antt. Assumes nothing.
-use Rattle.std.specs.Prelude.{Bool, true, false, not, ◌||◌, cond, List, ℕ, ◌+◌, ltb, Float}
+use Rattle.std.specs.Prelude.{Bool, true, false, not, ◌||◌, cond, List, Option, Some, None, ℕ, ◌+◌, ltb, Float}
 use Rattle.std.specs.Float.Ieee.{lt}
 use Rattle.float.specs.Loop.{over}
 use Rattle.float.specs.Double.{◌⊠◌, double}
-use Rattle.lags.specs.declared.Best.{Best}
+use Rattle.lags.specs.declared.Best.{Best as Made}
 use Rattle.lags.specs.Lags.{cross, power, positive, ratio_of}
+
+-- the winner so far
+pub record Best : Type 0 where
+  pub found : Bool
+  pub ratio : Float
+  pub lag : ℕ
 
 -- whether a lag with that ratio beats the winner so far
 abbrev pub Rule : Type 0
@@ -15,6 +21,11 @@ Rule = Best → ℕ → Float → Bool
 -- no lag has counted; where none does, the lag is 18
 unfoldable pub nothing : Best
 nothing = record { found = false; ratio = double 0 1; lag = 18 }
+
+-- the winner as the code has it
+abbrev pub as_best : Option Made → Best
+as_best None = nothing
+as_best (Some b) = record { found = true; ratio = b.ratio; lag = b.lag }
 
 unfoldable pub challenged : Rule → Best → ℕ → Float → Best
 challenged beats best j c = cond (not best.found || beats best j c) (record { found = true; ratio = c; lag = j }) best

@@ -24,15 +24,12 @@ use Rattle.float.proofs.Parts.{passes, all_part}
 use Rattle.float.proofs.Refusal.{Clear, clear, not_refused, or_clear}
 use Rattle.lag_limit.specs.Limit.{known, reach}
 use Rattle.lag_limit.proofs.Known.{known_within}
-use Rattle.lags.specs.declared.Best.{Best}
 use Rattle.lags.specs.Lags.{cross, power}
-use Rattle.lags.specs.Search.{Rule, offered, nothing, winner, preferred}
+use Rattle.lags.specs.Search.{Best, Rule, offered, nothing, winner, preferred}
 use Rattle.lags.proofs.Window.{Copy, winner_window}
 use Rattle.lags.proofs.Winner.{moved}
-use Rattle.pitch.specs.declared.OpenLoop.{OpenLoop}
-use Rattle.pitch.specs.declared.Shaping.{Shaping}
-use Rattle.pitch.specs.Pitch.{start, refused_pitch, pitch_refusals, open_loop_pitch}
-use Rattle.pitch.specs.Shaping.{settings, read, refused_shaping, shaping_refusals, harmonic_noise_shaping}
+use Rattle.pitch.specs.Pitch.{OpenLoop, start, refused_pitch, pitch_refusals, open_loop_pitch}
+use Rattle.pitch.specs.Shaping.{Shaping, settings, read, refused_shaping, shaping_refusals, harmonic_noise_shaping}
 use Rattle.pitch.proofs.Settings.{settings_copy}
 
 -- ---- a search that goes on

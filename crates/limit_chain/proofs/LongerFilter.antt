@@ -23,10 +23,9 @@ use Rattle.lag_limit.specs.Limit.{known, reach}
 use Rattle.lag_limit.proofs.Known.{known_within}
 use Rattle.harmonic_history.specs.History.{places, last}
 use Rattle.combined.specs.declared.CombinedMem.{CombinedMem}
-use Rattle.combined.specs.declared.Combined.{Combined}
 use Rattle.combined.specs.Memory.{history, floats, at_rest}
 use Rattle.combined.specs.Cascade.{Settings, Cascade, back, sample, cascaded}
-use Rattle.combined.specs.Run.{after, done, refusal, wild, combined_refusals, run_combined}
+use Rattle.combined.specs.Run.{Combined, after, done, refusal, wild, combined_refusals, run_combined}
 use Rattle.impulse.specs.Impulse.{impulse, impulse_response}
 use Rattle.combined.proofs.History.{cascaded_more, harmonic_length, history_after}
 use Rattle.limit_chain.specs.Shortened.{Shortened}

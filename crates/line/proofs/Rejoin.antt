@@ -22,13 +22,12 @@ use Prim.Native.Nat.{ℕ, ◌+◌, ◌*◌}
 use lib.IntN.{ℤ}
 use lib.Ieee.{Float}
 use lib.Ieee.Scale.{finite}
-use Rattle.float.specs.declared.Lines.{Lines}
+use Rattle.float.specs.Lines.{Lines}
 use Rattle.float.specs.Refusal.{all}
 use Rattle.spec_tables.specs.Codebook.{lsp_rows}
 use Rattle.spec_tables.proofs.BuiltIn.{rows_pass_lem}
-use Rattle.spec_lsp.specs.declared.quantise.Quantised.{Quantised}
 use Rattle.spec_lsp.specs.Decode.{decode_lsp_freq}
-use Rattle.spec_lsp.specs.Quantise.{index_of, quantise_by, quantise_lsp_freq}
+use Rattle.spec_lsp.specs.Quantise.{Quantised, index_of, quantise_by, quantise_lsp_freq}
 use Rattle.spec_lsp.proofs.Choice.{index_24}
 use Rattle.spec_lsp.proofs.Refusals.{quantise_done, quantised_24}
 use Rattle.line.specs.declared.Turn.{Turn}

@@ -2,7 +2,7 @@
 -- on holding sets, and no set and no index is refused. Then runs of turns: equal ends stay equal while no index is lost, and other ends
 -- come closer with each arrival. Assumes nothing.
 use mathlib.Core.Path.{◌≡◌, refl, sym, ap, ◌∙◌, subst}
-use mathlib.Core.Bool.{Bool, true, false, not, ◌&&◌, cond}
+use mathlib.Core.Bool.{Bool, true, false, ◌&&◌, cond}
 use mathlib.Core.List.{List, [], ◌∷◌}
 use Prim.Native.Nat.{ℕ, suc, ◌+◌, ◌*◌, ◌^◌, ◌≤◌, ◌<◌}
 use native.Mathlib.Nat.{le_refl}
@@ -19,6 +19,7 @@ use Rattle.line.specs.declared.Turn.{Turn}
 use Rattle.line.specs.declared.Ends.{Ends}
 use Rattle.line.specs.Line.{sends, arrives, loses, received, step, run, tally, arrivals, losses}
 use Rattle.line.specs.Claim.{Passing, Short}
+use Rattle.line.proofs.Counts.{zero_sum, brought}
 use Rattle.line.proofs.Held.{u, Held, held_decoded, held_finite, held_bounded, decoded_shrinks}
 use Rattle.line.proofs.Powers.{none, more}
 
@@ -90,26 +91,11 @@ module _ (rows : List ℤ) (R : Passing rows) (choice : List Float → List Floa
   run_kept ends (t ∷ ts) b = run_kept (next ends t) ts (kept ends t b)
 
   -- no loss in a run: none in its first turn, and none after it
-  zero_sum : (b : Bool) (n : ℕ) → cond b 1 0 + n ≡ 0 → (b ≡ false) × (n ≡ 0)
-  zero_sum true n h = absurd (bad n h)
-    where
-      bad : (n : ℕ) → 1 + n ≡ 0 → ⊥
-      bad n h = omega arith
-  zero_sum false n h = (refl, rest n h)
-    where
-      rest : (n : ℕ) → 0 + n ≡ 0 → n ≡ 0
-      rest n h = omega arith
-
   no_loss : (ends : Ends) (t : Turn) (ts : List Turn) →
       losses (quantise_by rows choice) (decode_lsp_freq rows) ends (t ∷ ts) ≡ 0 →
       (loses (quantise_by rows choice) ends t ≡ false) × (losses (quantise_by rows choice) (decode_lsp_freq rows) (next ends t) ts ≡ 0)
   unfolding tally
   no_loss ends t ts h = zero_sum (loses (quantise_by rows choice) ends t) (losses (quantise_by rows choice) (decode_lsp_freq rows) (next ends t) ts) h
-
-  brought : (s b : Bool) → s && not b ≡ false → s ≡ true → b ≡ true
-  brought true true h e = refl
-  brought true false h e = absurd (mathlib.Core.Bool.true≢false h)
-  brought false b h e = absurd (mathlib.Core.Bool.true≢false (sym e))
 
   pub equal_run : (ends : Ends) (ts : List Turn) → Both ends →
       losses (quantise_by rows choice) (decode_lsp_freq rows) ends ts ≡ 0 → ends.coder ≡ ends.decoder →

@@ -3,11 +3,10 @@
 -- end's set) are the code's structs.
 -- Added by design, around §2.5 and §2.6; document 01, D2 to D8 and D10. Assumes nothing.
 use Rattle.std.specs.Prelude.{ℕ, ◌+◌, Bool, ◌&&◌, not, cond, List, [], ◌∷◌, eqb, Float}
-use Rattle.float.specs.declared.Lines.{Lines}
-use Rattle.spec_lsp.specs.declared.quantise.Quantised.{Quantised}
+use Rattle.float.specs.Lines.{Lines}
+use Rattle.spec_lsp.specs.Quantise.{Quantised}
 use Rattle.line.specs.declared.Turn.{Turn}
 use Rattle.line.specs.declared.Ends.{Ends}
-use Rattle.line.specs.declared.Played.{Played}
 
 abbrev pub Set : Type 0
 Set = List Float
@@ -55,6 +54,11 @@ arrivals quantise = tally (arrives quantise) quantise
 abbrev pub losses : Coder → Decoder → Ends → List Turn → ℕ
 losses quantise = tally (loses quantise) quantise
 
--- a turn with what became of it
+-- a turn with what became of it: both ends after it, whether the coder sent an index, and whether that arrived
+pub record Played : Type 0 where
+  pub ends : Ends
+  pub sent : Bool
+  pub arrived : Bool
+
 unfoldable pub played : Coder → Decoder → Ends → Turn → Played
 played quantise decode ends turn = record { ends = step quantise decode ends turn; sent = sends quantise ends turn; arrived = arrives quantise ends turn }

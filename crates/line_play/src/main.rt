@@ -1,25 +1,15 @@
 // A line of 10,000 turns, played for both ends by `line::play`: sets that are refused, single losses, long silences, and rows of arrivals.
-// After each row of arrivals it writes the largest difference of the two ends in units of 1/64, rounded up, beside the bound of the theorem in
-// crates/line/proofs/Rejoin.antt, (3/8)^n times the difference before and one unit, with one unit more for the rounding; and whether it held.
-// Then the widest gap that the built-in rows can make, which shows how little slack the theorem has: 13 arrivals do not bring it down to two units, 1/32.
+// After each row of arrivals it writes the largest difference of the two ends in units of 1/64, rounded up, beside the bound of the
+// theorem in crates/line/proofs/Rejoin.antt, (3/8)^n times the difference before and one unit, with one unit more for the rounding; and
+// whether it held. Then the widest gap that the built-in rows can make, which shows how little slack the theorem has: 13 arrivals do not
+// bring it down to two units, 1/32. A write that fails is not told of.
 #![tactic(auto)]
 
-ghost use Rattle.std.specs.Prelude.{◌<◌};
+ghost use Rattle.std.specs.Prelude.{◌<◌, ◌≤◌};
 
-use line::{Ends, Turn};
+use line::{Ends, Outcome, Turn};
 use spec_lsp::decode;
-
-#[derive(Drop)]
-pub struct State {
-    pub seed: u64,
-    pub ends: Ends,
-    pub arrivals: u64,
-    pub before: f64,
-    pub rows: u64,
-    pub held: u64,
-    pub lost: u64,
-    pub refused: u64,
-}
+use std::num;
 
 // The next pseudo-random number, below 2^31.
 fn next(seed: u64) -> u64 {
@@ -27,290 +17,204 @@ fn next(seed: u64) -> u64 {
 }
 
 // A number of 0..m - 1 out of a pseudo-random one.
-fn pick(seed: u64, m: u64) -> u64 {
-    if m == 0 {
-        return 0;
-    }
+fn pick(seed: u64, m: u64) -> u64
+    requires { 0 < m }
+    ensures { result < m }
+{
     seed / 1024 % m
-}
-
-fn one_more(n: u64) -> u64 {
-    if n < 1000000 { n + 1 } else { n }
 }
 
 // How far a given frequency lies from its resting value: -8,192..8,191.
 fn offset(seed: u64) -> f32 {
-    (seed / 1024 % 16384) as f32 - 8192.0
+    f32::from(pick(seed, 16384) as u16) - 8192.0
 }
 
 // Ten frequencies about the resting ones.
 fn ordinary(rest: [f32; 10], seed: u64) -> [f32; 10] {
-    let mut set = [0.0f32; 10];
     let mut s = seed;
-    for i in 0..10 {
+    rest.map(|x| {
         s = next(s);
-        set[i] = rest[i] + offset(s);
-    }
-    set
+        x + offset(s)
+    })
 }
 
 // What the coder is given: now and then a set that it refuses, or one at the very limit.
 fn given(rest: [f32; 10], seed: u64, k: u64) -> [f32; 10] {
     let mut set = ordinary(rest, seed);
-    let kind = pick(seed, 24);
-    if kind == 0 {
-        set[3] = 0.0f32 / 0.0;
-    }
-    if kind == 1 {
-        set[0] = 1.0f32 / 0.0;
-    }
-    if kind == 2 {
-        set[9] = 65537.0;
-    }
-    if kind == 3 {
-        set[9] = 65536.0;
+    match pick(seed, 24) {
+        0 => set[3] = f32::NAN,
+        1 => set[0] = f32::INFINITY,
+        2 => set[9] = 65537.0,
+        3 => set[9] = 65536.0,
+        _ => {}
     }
     // a spell in which nothing is sent
     if k / 64 % 16 == 9 {
-        set[5] = -1.0f32 / 0.0;
+        set[5] = f32::NEG_INFINITY;
     }
     set
 }
 
 // Whether the line would bring this turn's index.
 fn brings(seed: u64, k: u64) -> bool {
-    let spell = k / 64 % 16;
-    if spell == 2 {
-        return false;
+    match k / 64 % 16 {
+        2 | 11 => false,
+        5 | 14 => true,
+        0..8 => pick(seed, 8) != 0,
+        _ => pick(seed, 3) != 0,
     }
-    if spell == 11 {
-        return false;
-    }
-    if spell == 5 {
-        return true;
-    }
-    if spell == 14 {
-        return true;
-    }
-    if spell < 8 {
-        return pick(seed, 8) != 0;
-    }
-    pick(seed, 3) != 0
 }
 
 // The least whole number that is no less than x, up to 2^23.
-fn ceiling(x: f64) -> u64
-    ensures { result < 16777216 }
+fn ceiling(x: f64) -> u32
+    ensures { result ≤ 8388608 }
 {
-    if x <= 0.0 {
-        return 0;
-    }
-    let mut low: u64 = 0;
-    let mut half: u64 = 4194304;
-    while 0 < half {
-        let middle = low + half;
-        if (middle as f64) < x {
-            low = middle;
-        }
-        half /= 2;
-    }
-    low + 1
+    num::saturating_f64_to_u32(x.ceil()).min(8388608)
 }
 
-// How far two values lie apart, in units of 1/64.
-fn distance(x: f32, y: f32) -> f64 {
-    let a = std::num::f32_to_f64_with_nan(x);
-    let b = std::num::f32_to_f64_with_nan(y);
-    if a < b {
-        (b - a) * 64.0
-    } else {
-        (a - b) * 64.0
-    }
-}
-
-fn larger(x: f64, y: f64) -> f64 {
-    if x < y { y } else { x }
-}
-
-// The largest difference of the two ends, in units of 1/64.
-fn apart(coder: [f32; 10], decoder: [f32; 10]) -> f64 {
+// The largest difference of two sets, in units of 1/64.
+fn apart(one: [f32; 10], other: [f32; 10]) -> f64 {
     let mut most = 0.0f64;
-    for i in 0..10 {
-        most = larger(most, distance(coder[i], decoder[i]));
+    for (x, y) in one.iter().zip(&other) {
+        most = most.max((f64::from(*x) - f64::from(*y)).abs() * 64.0);
     }
     most
+}
+
+fn ends_apart(ends: Ends) -> f64 {
+    apart(ends.coder, ends.decoder)
 }
 
 // What n arrivals leave of a difference.
 fn left(before: f64, n: u64) -> f64 {
     let mut x = before;
     for _ in 0..n {
-        x = x * 0.375;
+        x *= 0.375;
     }
     x
 }
 
 // A row of n arrivals is over: whether the bound held, with a line that says so.
-fn report(n: u64, before: f64, ends: Ends) -> bool {
-    let coder = ends.coder;
-    let decoder = ends.decoder;
-    let now = ceiling(apart(coder, decoder));
+fn report(rt: &impl Print, n: u64, before: f64, ends: Ends) -> bool {
+    let was = ceiling(before);
+    let now = ceiling(ends_apart(ends));
     let bound = ceiling(left(before, n)) + 2;
-    io::print_decimal(1, n);
-    io::write_all(1, b" arrivals: ");
-    io::print_decimal(1, ceiling(before));
-    io::write_all(1, b" before, ");
-    io::print_decimal(1, now);
-    io::write_all(1, b" after, bound ");
-    io::print_decimal(1, bound);
-    if now <= bound {
-        io::write_all(1, b", held\n");
-        return true;
-    }
-    io::write_all(1, b", NOT HELD\n");
-    false
+    let held = now <= bound;
+    let outcome = if held { "held" } else { "NOT HELD" };
+    let _ = println!(rt; "{n} arrivals: {was} before, {now} after, bound {bound}, {outcome}");
+    held
 }
 
-// The row that a loss or the end cuts off.
-fn row_over(s: State) -> State {
-    let n = s.arrivals;
-    let ends = s.ends;
-    if n == 0 {
-        return s;
-    }
-    let ok = report(n, s.before, ends);
-    let held = if ok { one_more(s.held) } else { s.held };
-    let rows = one_more(s.rows);
-    State {
-        seed: s.seed,
-        ends,
-        arrivals: 0,
-        before: s.before,
-        rows,
-        held,
-        lost: s.lost,
-        refused: s.refused,
-    }
+// Where the line has come to, and what has been counted. No count comes near 2^64.
+#[derive(Drop)]
+struct State {
+    seed: u64,
+    ends: Ends,
+    // in a row, and how far the ends lay apart before them
+    arrivals: u64,
+    before: f64,
+    rows: u64,
+    held: u64,
+    lost: u64,
+    refused: u64,
 }
 
-fn turn(s: State, rest: [f32; 10], k: u64) -> State {
-    let seed = next(s.seed);
-    let set = given(rest, seed, k);
-    let ends = s.ends;
-    let p = line::play(
-        ends,
-        Turn {
-            given: set,
-            brings: brings(seed, k),
-        },
-    );
-    let after = p.ends;
-    if !p.sent {
-        return State {
-            seed,
-            ends: after,
-            arrivals: s.arrivals,
-            before: s.before,
-            rows: s.rows,
-            held: s.held,
-            lost: s.lost,
-            refused: one_more(s.refused),
+impl State {
+    fn new(ends: Ends) -> State {
+        State {
+            seed: 20250118,
+            ends,
+            arrivals: 0,
+            before: 0.0,
+            rows: 0,
+            held: 0,
+            lost: 0,
+            refused: 0,
+        }
+    }
+
+    // The row that a loss or the end cuts off.
+    fn row_over(&mut self, rt: &impl Print) {
+        if self.arrivals == 0 {
+            return;
+        }
+        if report(rt, self.arrivals, self.before, self.ends) {
+            self.held = self.held.wrapping_add(1);
+        }
+        self.rows = self.rows.wrapping_add(1);
+        self.arrivals = 0;
+    }
+
+    fn turn(&mut self, rt: &impl Print, rest: [f32; 10], k: u64) {
+        self.seed = next(self.seed);
+        let turn = Turn {
+            given: given(rest, self.seed, k),
+            brings: brings(self.seed, k),
         };
+        let played = line::play(self.ends, turn);
+        match played.outcome {
+            Outcome::Refused => self.refused = self.refused.wrapping_add(1),
+            Outcome::Arrived => self.arrivals = self.arrivals.wrapping_add(1),
+            Outcome::Lost => {
+                self.row_over(rt);
+                self.before = ends_apart(played.ends);
+                self.lost = self.lost.wrapping_add(1);
+            }
+        }
+        self.ends = played.ends;
     }
-    if p.arrived {
-        return State {
-            seed,
-            ends: after,
-            arrivals: one_more(s.arrivals),
-            before: s.before,
-            rows: s.rows,
-            held: s.held,
-            lost: s.lost,
-            refused: s.refused,
-        };
-    }
-    let t = row_over(s);
-    let coder = after.coder;
-    let decoder = after.decoder;
-    let before = apart(coder, decoder);
-    State {
-        seed,
-        ends: after,
-        arrivals: 0,
-        before,
-        rows: t.rows,
-        held: t.held,
-        lost: one_more(t.lost),
-        refused: t.refused,
+
+    // The last row, and the totals.
+    fn finish(&mut self, rt: &impl Print) {
+        self.row_over(rt);
+        total(rt, "rows of arrivals", self.rows);
+        total(rt, "bound held", self.held);
+        total(rt, "indices lost", self.lost);
+        total(rt, "sets refused", self.refused);
     }
 }
 
-fn total(name: &[u8], n: u64) {
-    io::write_all(1, name);
-    io::print_decimal(1, n);
-    io::write_all(1, b"\n");
-}
-
-// The last row, and the totals.
-fn finish(s: State) {
-    let t = row_over(s);
-    total(b"rows of arrivals: ", t.rows);
-    total(b"bound held: ", t.held);
-    total(b"indices lost: ", t.lost);
-    total(b"sets refused: ", t.refused);
+fn total(rt: &impl Print, name: &str, n: u64) {
+    let _ = println!(rt; "{name}: {n}");
 }
 
 // The coder is given what an index makes of its own set, so that it sends that index.
 fn repeated(ends: Ends, index: u32, brings: bool) -> Ends {
-    let coder = ends.coder;
-    let wanted = decode::decode_lsp_freq(index, coder);
-    let given = wanted.lines;
-    let played = line::play(ends, Turn { given, brings });
-    played.ends
+    let given = decode::decode_lsp_freq(index, ends.coder).unwrap_or([0.0; 10]);
+    line::play(ends, Turn { given, brings }).ends
 }
 
 fn driven(ends: Ends, index: u32, turns: u64, brings: bool) -> Ends {
-    let mut e = ends;
+    let mut ends = ends;
     for _ in 0..turns {
-        let next = repeated(e, index, brings);
-        e = next;
+        ends = repeated(ends, index, brings);
     }
-    e
+    ends
 }
 
 // Frequency 4 has its least number in row 7 of band 1 and its greatest in row 255. Both ends go down as far as they can, the coder comes
 // up as far as it can while nothing arrives, and then everything does.
-fn widest_gap(begin: Ends) {
+fn widest_gap(rt: &impl Print, begin: Ends) {
     let down = driven(begin, 1792, 40, true);
     let wide = driven(down, 65280, 40, false);
-    let rest = begin.coder;
-    let coder = wide.coder;
-    let decoder = wide.decoder;
-    let before = apart(coder, decoder);
-    total(b"furthest from rest: ", ceiling(apart(coder, rest)));
+    let before = ends_apart(wide);
+    total(
+        rt,
+        "furthest from rest",
+        u64::from(ceiling(apart(wide.coder, begin.coder))),
+    );
     let thirteen = driven(wide, 65280, 13, true);
-    let _ = report(13, before, thirteen);
+    report(rt, 13, before, thirteen);
     let fifteen = driven(thirteen, 65280, 2, true);
-    let _ = report(15, before, fifteen);
+    report(rt, 15, before, fifteen);
 }
 
-fn main() {
+fn main(rt: HostRuntime) {
     let begin = line::begin();
-    let rest = begin.coder;
-    let mut s = State {
-        seed: 20250118,
-        ends: begin,
-        arrivals: 0,
-        before: 0.0,
-        rows: 0,
-        held: 0,
-        lost: 0,
-        refused: 0,
-    };
+    let mut state = State::new(begin);
     for k in 0..10000 {
-        let t = turn(s, rest, k);
-        s = t;
+        state.turn(&rt, begin.coder, k);
     }
-    finish(s);
-    widest_gap(begin);
+    state.finish(&rt);
+    widest_gap(&rt, begin);
 }

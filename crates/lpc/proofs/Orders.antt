@@ -16,7 +16,7 @@ use Rattle.float.specs.Double.{double}
 use Rattle.float.specs.Narrow.{narrow}
 use Rattle.float.specs.Single.{single}
 use Rattle.float.proofs.Turns.{beside}
-use Rattle.lpc.specs.declared.Recursion.{Recursion}
+use Rattle.lpc.specs.inner.Flagged.{Recursion}
 use Rattle.lpc.specs.Levinson.{reflection, raised, lessened, after, reflection_of, inside, taken, reached, highest, levinson, second}
 use Rattle.lpc.specs.inner.Flagged.{advanced, tried, order, start, flagged}
 

@@ -1,5 +1,7 @@
 -- Laws behind the functions' proofs, and those that callers cite.
-mod Series
+pub mod Paired
+pub mod Series
 mod Turns
+mod Falling
 pub mod Inside
 pub mod Strict

@@ -8,8 +8,7 @@ use lib.ListN.{length-map}
 use Rattle.float.specs.Finite.{not_finite}
 use Rattle.float.specs.Narrow.{narrow}
 use Rattle.float.specs.Refusal.{first}
-use Rattle.float.specs.Lines.{refused_lines}
-use Rattle.float.specs.declared.Lines.{Lines}
+use Rattle.float.specs.Lines.{Lines, refused_lines}
 use Rattle.float.proofs.Refusal.{not_refused, clear}
 use Rattle.roots.specs.Root.{roots_of}
 use Rattle.roots.proofs.Inside.{Cosine, cosines_at}

@@ -1,7 +1,10 @@
 -- Two lists of one length in turn: what stands where, how many there are, and that it is all the same whether they are narrowed before
 -- or after. Assumes nothing.
-use Rattle.std.proofs.Common.{◌≡◌, ℕ, zero, suc, ◌+◌, ◌*◌, List, [], ◌∷◌, map, length, get_or, refl, ap, arith}
+use Rattle.std.proofs.Common.{◌≡◌, ◌∙◌, ℕ, zero, suc, ◌+◌, ◌*◌, ◌/◌, ◌%◌, Bool, true, false, cond, eqb, List, [], ◌∷◌, map, length, get_or, refl, ap, arith}
 use lib.Ieee.{Float, nan}
+use borrow.Author.Tests.{eqb-true, eqb-false}
+use Rattle.float.specs.Table.{table}
+use Rattle.float.proofs.Table.{same_table, table_entries}
 use Rattle.lsp.specs.Pairs.{in_turn}
 
 pub even : (p q : List Float) (k : ℕ) → length p ≡ length q → get_or p k nan ≡ get_or (in_turn p q) (2 * k) nan
@@ -38,3 +41,26 @@ unfolding in_turn
 mapped f [] q = refl
 mapped f (x ∷ p) [] = refl
 mapped f (x ∷ p) (y ∷ q) = ap (λ (l : List Float). f x ∷ f y ∷ l) (mapped f p q)
+
+-- ---- place by place
+abbrev pub turns : List Float → List Float → ℕ → Float
+turns p q k = cond (eqb (k % 2) 0) (get_or p (k / 2) nan) (get_or q (k / 2) nan)
+
+turns_at : (p q : List Float) (k : ℕ) → length p ≡ length q → turns p q k ≡ get_or (in_turn p q) k nan
+turns_at p q k e = go (eqb (k % 2) 0) refl
+  where
+    go : (b : Bool) → eqb (k % 2) 0 ≡ b → cond b (get_or p (k / 2) nan) (get_or q (k / 2) nan) ≡ get_or (in_turn p q) k nan
+    go true t =
+        let z : k % 2 ≡ 0 = eqb-true (k % 2) 0 t in
+        let d : 2 * (k / 2) ≡ k = omega arith in
+        rw d at (even p q (k / 2) e)
+    go false t =
+        let z : k % 2 ≡ 0 → ⊥ = eqb-false (k % 2) 0 t in
+        let d : 2 * (k / 2) + 1 ≡ k = omega arith in
+        rw d at (odd p q (k / 2) e)
+
+pub turns_all : (p q : List Float) → length p ≡ 5 → length q ≡ 5 → table 10 (turns p q) ≡ in_turn p q
+turns_all p q l m =
+    let e : length p ≡ length q = omega arith in
+    same_table 10 (turns p q) (λ k. get_or (in_turn p q) k nan) (λ k h. turns_at p q k e)
+    ∙ table_entries 10 (in_turn p q) nan (omega (arith, both_long p q e))

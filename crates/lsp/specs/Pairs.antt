@@ -6,8 +6,7 @@ use Rattle.std.specs.Float.Ieee.{lt}
 use Rattle.float.specs.Finite.{not_finite}
 use Rattle.float.specs.Narrow.{narrow}
 use Rattle.float.specs.Refusal.{first, answer}
-use Rattle.float.specs.Lines.{refused_lines}
-use Rattle.float.specs.declared.Lines.{Lines}
+use Rattle.float.specs.Lines.{Lines, refused_lines}
 use Rattle.roots.specs.Root.{roots_of}
 use Rattle.lsp.specs.Chebyshev.{plus_next, minus_next, chebyshev}
 

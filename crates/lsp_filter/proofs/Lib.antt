@@ -1,2 +1,3 @@
 -- Laws behind the functions' proofs.
 mod InPlace
+mod Sets

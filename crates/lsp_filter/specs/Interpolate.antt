@@ -6,8 +6,7 @@ use Rattle.float.specs.Table.{table}
 use Rattle.float.specs.Finite.{not_finite}
 use Rattle.float.specs.Refusal.{first, answer}
 use Rattle.float.specs.Single.{◌⊕◌, ◌⊗◌, single}
-use Rattle.float.specs.Lines.{refused_lines}
-use Rattle.float.specs.declared.Lines.{Lines}
+use Rattle.float.specs.Lines.{Lines, refused_lines}
 
 -- choices 0, 1, 2; all others weigh the previous set 0 and this one 1
 unfoldable pub previous_weight : ℕ → Float

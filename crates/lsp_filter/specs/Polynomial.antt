@@ -1,6 +1,6 @@
 -- `lsp_to_lpc`: the prediction filter whose line spectral pairs have these ten cosines, in singles.
 -- §2.7, after the interpolation; the Rust names no equation for it; document 01, B44 and B45. Assumes nothing.
-use Rattle.std.specs.Prelude.{ℕ, zero, suc, ◌+◌, ◌-◌, ◌*◌, cond, List, [], ◌∷◌, eqb, leb, Float, get_or, replicate}
+use Rattle.std.specs.Prelude.{ℕ, zero, suc, ◌+◌, ◌-◌, ◌*◌, cond, List, [], ◌∷◌, eqb, leb, Float, get_or, replicate, Result}
 use Rattle.std.specs.Float.{nan}
 use Rattle.std.specs.Float.Ieee.{neg}
 use Rattle.float.specs.Table.{table}
@@ -8,7 +8,8 @@ use Rattle.float.specs.Loop.{over}
 use Rattle.float.specs.Finite.{not_finite}
 use Rattle.float.specs.Refusal.{first, answer}
 use Rattle.float.specs.Single.{◌⊕◌, ◌⊖◌, ◌⊗◌, single}
-use Rattle.lsp_filter.specs.declared.LpcCoefficients.{LpcCoefficients}
+use Rattle.float.specs.Answered.{answered}
+use Rattle.float.specs.declared.status.Refusal.{Refusal}
 
 -- coefficient i of p × (1 − 2c z⁻¹ + z⁻²)
 unfoldable pub coefficient : Float → List Float → ℕ → Float
@@ -35,6 +36,11 @@ minus_factor q i = single 0 1 ⊖ get_or q (i - 1) nan ⊕ get_or q i nan
 unfoldable pub half_sum : List Float → List Float → ℕ → Float
 half_sum p q i = cond (eqb i 0) (single 1 1) (single 1 2 ⊗ (plus_factor p i ⊕ minus_factor q i))
 
+-- what is answered: a status, and eleven coefficients
+pub record LpcCoefficients : Type 0 where
+  pub status : ℕ
+  pub a : List Float
+
 -- a refused filter: the number of the refusal, and zeros
 unfoldable pub refused_lpc : ℕ → LpcCoefficients
 refused_lpc n = record { status = n; a = replicate 11 (single 0 1) }
@@ -44,3 +50,7 @@ unfoldable pub lsp_to_lpc : List Float → LpcCoefficients
 lsp_to_lpc lsp =
     answer (first ((5, not_finite lsp) ∷ [])) refused_lpc
     (record { status = 0; a = table 11 (half_sum (side lsp 0) (side lsp 1)) })
+
+-- the answer of the code
+abbrev pub as_lpc : Result (List Float) Refusal → LpcCoefficients
+as_lpc = answered refused_lpc (λ a. record { status = 0; a = a })

@@ -2,9 +2,15 @@
 -- more than 24 bits is no index, and splitting refuses it with 9. That each undoes the other is in `proofs/Bytes.antt`.
 -- §2.5, which leaves the order of the bytes open: band 0 first is the Rust's code; document 01, B27; document 02, E4.2 and E4.6, in the
 -- place of B32. Assumes nothing.
-use Rattle.std.specs.Prelude.{ℕ, ◌+◌, ◌*◌, ◌/◌, ◌%◌, Bool, List, [], ◌∷◌, ltb, get_or}
+use Rattle.std.specs.Prelude.{ℕ, ◌+◌, ◌*◌, ◌/◌, ◌%◌, Bool, List, [], ◌∷◌, Result, ltb, get_or}
+use Rattle.float.specs.Answered.{answered}
 use Rattle.float.specs.Refusal.{first, answer}
-use Rattle.lsp_index.specs.declared.SplitIndex.{SplitIndex}
+use Rattle.float.specs.declared.status.Refusal.{Refusal}
+
+-- the rows of an index, one a band, beside the status
+pub record SplitIndex : Type 0 where
+  pub status : ℕ
+  pub bands : List ℕ
 
 abbrev pub combine : List ℕ → ℕ
 combine bands = get_or bands 0 0 * 65536 + get_or bands 1 0 * 256 + get_or bands 2 0
@@ -24,3 +30,7 @@ split_as bands = record { status = 0; bands = bands }
 
 unfoldable pub split : ℕ → SplitIndex
 split index = answer (first ((9, too_long index) ∷ [])) refused_split (split_as (bytes index))
+
+-- the answer of the code
+abbrev pub as_split : Result (List ℕ) Refusal → SplitIndex
+as_split = answered refused_split split_as

@@ -1,33 +1,23 @@
 -- What is answered over lent rows: 1 where there are not 2,560 numbers, and else what the operation makes of them, as a value and as a
 -- function of what else it is given. Assumes nothing.
-use mathlib.Core.Path.{◌≡◌, refl, ap}
+use mathlib.Core.Path.{◌≡◌, ap}
 use mathlib.Core.Bool.{Bool, true, not}
 use mathlib.Core.List.{List, [], ◌∷◌}
 use Prim.Native.Nat.{ℕ}
-use borrow.Author.Tests.{eq-eqb, ne_eqb}
+use borrow.Author.Tests.{eq-eqb}
 use lib.Dec.{eqb}
 use lib.IntN.{ℤ}
 use lib.ListN.{length}
 use lib.Ieee.{Float}
-use Rattle.float.specs.declared.Lines.{Lines}
-use Rattle.float.specs.Lines.{refused_lines}
+use Rattle.float.specs.Lines.{Lines, refused_lines}
 use Rattle.float.specs.Refusal.{first, answer}
 use Rattle.spec_tables.specs.Codebook.{lsp_rows}
 use Rattle.spec_tables.proofs.BuiltIn.{rows_length}
-use Rattle.spec_lsp.specs.declared.quantise.Quantised.{Quantised}
 use Rattle.spec_lsp.specs.Decode.{decode_lsp_freq}
-use Rattle.spec_lsp.specs.Quantise.{refused_index, quantise_lsp_freq}
+use Rattle.spec_lsp.specs.Quantise.{Quantised, refused_index, quantise_lsp_freq}
 use Rattle.frame.specs.declared.Coder.{Coder}
-use Rattle.frame.specs.declared.Frame.{Frame}
-use Rattle.frame.specs.Frame.{refusal, code_frame}
-use Rattle.own_rows.specs.Own.{over, quantise_in, decode_in, code_frame_in}
-
-module _ {A : Type 0} (rows : List ℤ) (refused : ℕ → A) (done : A) {r : A} where
-  pub other : (length rows ≡ 2560 → ⊥) → r ≡ refused 1 → r ≡ over rows refused done
-  other h e = rw (ne_eqb (length rows) 2560 h) e
-
-  pub lent : length rows ≡ 2560 → r ≡ done → r ≡ over rows refused done
-  lent h e = rw (eq-eqb (length rows) 2560 h) e
+use Rattle.frame.specs.Frame.{Frame, refusal, code_frame}
+use Rattle.own_rows.specs.Own.{quantise_in, decode_in, code_frame_in}
 
 -- ---- over 2,560 numbers the operations are the definitions themselves
 abbrev counted : {A : Type 0} → Bool → (ℕ → A) → A → A

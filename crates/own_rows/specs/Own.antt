@@ -2,15 +2,12 @@
 -- is looked at, and else what their definitions give over these rows. Whether a load has passed the numbers is not asked again.
 -- §2.5 and §2.6, over other rows; document 02, E5.7 and E5.10. Assumes nothing.
 use Rattle.std.specs.Prelude.{ℕ, List, [], ◌∷◌, ℤ, length, Float}
-use Rattle.float.specs.declared.Lines.{Lines}
-use Rattle.float.specs.Lines.{refused_lines}
+use Rattle.float.specs.Lines.{Lines, refused_lines}
 use Rattle.float.specs.Refusal.{first, answer}
-use Rattle.spec_lsp.specs.declared.quantise.Quantised.{Quantised}
 use Rattle.spec_lsp.specs.Decode.{decode_lsp_freq}
-use Rattle.spec_lsp.specs.Quantise.{refused_index, quantise_lsp_freq}
+use Rattle.spec_lsp.specs.Quantise.{Quantised, refused_index, quantise_lsp_freq}
 use Rattle.frame.specs.declared.Coder.{Coder}
-use Rattle.frame.specs.declared.Frame.{Frame}
-use Rattle.frame.specs.Frame.{refusal, code_frame}
+use Rattle.frame.specs.Frame.{Frame, refusal, code_frame}
 use Rattle.own_rows.specs.Row.{other_length}
 
 -- what is answered over lent rows

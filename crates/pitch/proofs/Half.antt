@@ -11,23 +11,12 @@ use lib.Seq.{length-take-le}
 use Rattle.float.specs.Refusal.{all}
 use Rattle.float.proofs.Parts.{passes, all_part}
 use Rattle.lag_limit.specs.Limit.{reach}
-use Rattle.lag_limit.proofs.Known.{known_within}
-use Rattle.lags.specs.declared.Best.{Best}
 use Rattle.lags.specs.Search.{winner, preferred}
 use Rattle.lags.proofs.Window.{Copy, begins, copied, winner_window}
 use Rattle.pitch.specs.Pitch.{start}
 use Rattle.pitch.specs.inner.Readable.{Half}
 
 module _ (limit : ℕ) (w : List Float) (half : ℕ) (shown : Half limit w half) where
-  -- the limit is one that `search_in` takes
-  pub limit_from : 22 ≤ limit
-  limit_from =
-      let within = known_within limit shown.own_limit in
-      omega (arith, within.0)
-
-  pub limit_to : limit ≤ 142
-  limit_to = (known_within limit shown.own_limit).1
-
   -- the half and its history, as the code cuts them
   abbrev pub part : List Float
   part = take (start limit half + 120 - (start limit half - reach limit)) (drop (start limit half - reach limit) w)
@@ -44,14 +33,6 @@ module _ (limit : ℕ) (w : List Float) (half : ℕ) (shown : Half limit w half)
       let o = start limit half in
       all_part finite w (o - reach limit) (o + 120 - (o - reach limit)) (o + 120) (omega arith) (passes _ shown.fine)
 
-  -- and fits where it is copied
-  pub part_short : length part ≤ 265
-  part_short =
-      let o = start limit half in
-      let m = reach limit in
-      let n : length part ≡ o + 120 - (o - m) = part_length in
-      omega (arith, limit_to)
-
   module _ (x rest : List Float) (e : x ≡ part ++ rest) where
     pub half_copied : Copy x w (start limit half - reach limit) (reach limit + 120)
     half_copied =
@@ -59,9 +40,9 @@ module _ (limit : ℕ) (w : List Float) (half : ℕ) (shown : Half limit w half)
         let m = reach limit in
         copied x w (o - m) (m + 120) (o + 120) (omega arith) shown.long (begins x part rest e)
 
-    pub found : (b : Best) → b ≡ winner preferred x (reach limit) 120 18 (suc limit) →
-        b.lag ≡ (winner preferred w (start limit half) 120 18 (suc limit)).lag
-    found b s =
+    pub found : (lag : ℕ) → lag ≡ (winner preferred x (reach limit) 120 18 (suc limit)).lag →
+        lag ≡ (winner preferred w (start limit half) 120 18 (suc limit)).lag
+    found lag s =
         let o = start limit half in
         let m = reach limit in
         let p : m ≤ o = omega arith in

@@ -2,5 +2,6 @@
 mod Powers
 pub mod Edge
 pub mod Settings
+pub mod Shown
 pub mod Half
 pub mod Limit

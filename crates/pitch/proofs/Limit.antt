@@ -19,13 +19,13 @@ use Rattle.float.specs.Double.{double}
 use Rattle.float.proofs.Refusal.{clear, not_refused}
 use Rattle.lag_limit.specs.Limit.{known, reach}
 use Rattle.lag_limit.proofs.Known.{known_within}
-use Rattle.lags.specs.declared.Best.{Best}
+use Rattle.lags.specs.Search.{Best}
 use Rattle.lags.specs.Lags.{cross, power, gain}
 use Rattle.lags.specs.Search.{winner, preferred, greater}
 use Rattle.lags.proofs.Winner.{Outcome, nothing_lag, winner_outcome, outcome_below}
-use Rattle.pitch.specs.declared.OpenLoop.{OpenLoop}
+use Rattle.pitch.specs.Pitch.{OpenLoop}
 use Rattle.pitch.specs.declared.HnsParams.{HnsParams}
-use Rattle.pitch.specs.declared.Shaping.{Shaping}
+use Rattle.pitch.specs.Shaping.{Shaping}
 use Rattle.pitch.specs.Gate.{passes}
 use Rattle.pitch.specs.Pitch.{start, refused_pitch, pitch_refusals, open_loop_pitch}
 use Rattle.pitch.specs.Shaping.{shaping_off, factor, settled, shaped, settings, read, refused_shaping, shaping_refusals, harmonic_noise_shaping}

@@ -1,7 +1,6 @@
 -- How the settings follow from the winner, case by case; and that they read only the samples from place o − m on. Assumes nothing.
 use mathlib.Core.Path.{◌≡◌, refl, sym, ap, ◌∙◌}
-use borrow.Author.Tests.{not-false}
-use mathlib.Core.Bool.{true, false, not}
+use mathlib.Core.Bool.{true, false}
 use mathlib.Core.List.{List, [], ◌∷◌}
 use Prim.Native.Nat.{ℕ, zero, suc, ◌+◌, ◌-◌, ◌≤◌, ◌<◌, max, min}
 use native.Mathlib.Omega.{arith}
@@ -11,48 +10,45 @@ use lib.Seq.{take-take, drop-drop}
 use Rattle.float.specs.Table.{table}
 use Rattle.float.specs.Loop.{over}
 use Rattle.float.specs.Double.{◌⧄◌}
-use Rattle.lags.specs.declared.Best.{Best}
+use Rattle.lags.specs.Search.{Best}
 use Rattle.lags.specs.declared.EightLags.{EightLags}
 use Rattle.pitch.specs.declared.HnsParams.{HnsParams}
 use Rattle.lags.specs.Lags.{cross, power, gain}
-use Rattle.lags.specs.inner.Delayed.{delayed}
 use Rattle.lags.specs.Search.{offered, nothing, winner, preferred, greater}
 use Rattle.pitch.specs.Shaping.{shaping_off, settled, shaped, settings}
-use Rattle.lags.proofs.Turns.{squares, kept_power, own, block}
+use Rattle.lags.proofs.Turns.{own, block}
 use Rattle.lags.proofs.Winner.{within, rules_agree, winner_outcome, outcome_below}
 use Rattle.lags.proofs.Window.{Copy, winner_window, cross_window, power_window}
 
--- ---- what the code knows when it has searched: the squares, the eight lags' sums from l − 4 on, and the winner among l − 3 .. l + 3
-module _ (x q : List Float) (o limit l from : ℕ) (sums : EightLags) (best : Best)
-    (pre : ((limit + 3 ≤ o) × (o + 60 ≤ 265)) × ((limit ≤ 142) × ((18 ≤ l) × ((l ≤ limit) × (q ≡ table 265 (squares x))))))
-    (own-sums : (sums.cross ≡ table 8 (λ i. cross x o 60 (l - 4 + 7 - i))) × (sums.power ≡ table 8 (λ i. delayed q o 60 (l - 4 + 7 - i))))
-    (low : from ≡ max 18 (l - 3))
+-- ---- what the code knows when it has searched: the eight lags' sums from l − 4 on, and the winner among l − 3 .. l + 3
+module _ (x : List Float) (o limit l from : ℕ) (sums : EightLags) (best : Best) (low : 18 ≤ l) (high : l ≤ limit) (first : from ≡ max (l - 3) 18)
+    (own-cross : sums.cross ≡ table 8 (λ i. cross x o 60 (l - 4 + 7 - i))) (own-power : sums.power ≡ table 8 (λ i. power x o 60 (l - 4 + 7 - i)))
     (won : best ≡ over from (l + 4) (λ j b. offered preferred b j (get_or sums.cross (l - 4 + 7 - j) nan) (get_or sums.power (l - 4 + 7 - j) nan)) nothing)
   where
     -- the winner is the definition's
     shaping_winner : best ≡ winner greater x o 60 (max 18 (l - 3)) (suc (min (limit + 3) (l + 3)))
     unfolding winner
     shaping_winner =
-        let high : l + 4 ≡ suc (min (limit + 3) (l + 3)) = omega arith in
+        let start : from ≡ max 18 (l - 3) = omega arith in
+        let end : l + 4 ≡ suc (min (limit + 3) (l + 3)) = omega arith in
         won
-        ∙ block preferred x q sums.cross sums.power 265 o 60 (l - 4) from (l + 4) nothing
-        pre.1.1.1.1 (omega arith) own-sums.0 own-sums.1 (omega arith) (omega arith)
+        ∙ block preferred x sums.cross sums.power o 60 (l - 4) from (l + 4) nothing own-cross own-power (omega arith) (omega arith)
         ∙ rules_agree (cross x o 60) (power x o 60) from (l + 4) (omega arith)
-        ∙ ap (λ (a : ℕ). over a (l + 4) (λ j b. offered greater b j (cross x o 60 j) (power x o 60 j)) nothing) low
-        ∙ ap (λ (b : ℕ). over (max 18 (l - 3)) b (λ j b. offered greater b j (cross x o 60 j) (power x o 60 j)) nothing) high
+        ∙ ap (λ (a : ℕ). over a (l + 4) (λ j b. offered greater b j (cross x o 60 j) (power x o 60 j)) nothing) start
+        ∙ ap (λ (b : ℕ). over (max 18 (l - 3)) b (λ j b. offered greater b j (cross x o 60 j) (power x o 60 j)) nothing) end
 
     -- no lag counted
-    pub none_won : not best.found ≡ true → (r : HnsParams) → r ≡ shaping_off → r ≡ settings limit x o l
+    pub none_won : best.found ≡ false → shaping_off ≡ settings limit x o l
     unfolding settings shaped settled
-    none_won h r e = rw (← shaping_winner, h) e
+    none_won h = rw (← shaping_winner, h)
 
-    module _ (found : not best.found ≡ false) where
+    module _ (found : best.found ≡ true) where
       -- where the winner's sums stand among the eight
       pub placed : (best.lag ≤ l + 3) × (l + 3 - best.lag < 8)
       placed =
           let num : ℕ → Float = λ j. get_or sums.cross (l - 4 + 7 - j) nan in
           let den : ℕ → Float = λ j. get_or sums.power (l - 4 + 7 - j) nan in
-          let r : (from ≤ best.lag) × (best.lag < l + 4) = within preferred num den from (l + 4) best won (not-false _ found) in
+          let r : (from ≤ best.lag) × (best.lag < l + 4) = within preferred num den from (l + 4) best won found in
           (omega (arith, r.1), omega (arith, r.0))
 
       gain_of : get_or sums.cross (l + 3 - best.lag) nan ⧄ get_or sums.power (l + 3 - best.lag) nan ≡ gain x o 60 best.lag
@@ -60,18 +56,17 @@ module _ (x q : List Float) (o limit l from : ℕ) (sums : EightLags) (best : Be
           let i : l + 3 - best.lag ≡ l - 4 + 7 - best.lag = omega arith in
           let above : l - 4 ≤ best.lag = omega (arith, placed.0, placed.1) in
           let below : best.lag < l - 4 + 8 = omega (arith, placed.0) in
-          let num = own (cross x o 60) sums.cross (l - 4) best.lag above below own-sums.0 in
-          let kept = own (delayed q o 60) sums.power (l - 4) best.lag above below own-sums.1 in
-          let den = kept ∙ kept_power x q 265 o 60 best.lag pre.1.1.1.1 (omega arith) in
+          let num = own (cross x o 60) sums.cross (l - 4) best.lag above below own-cross in
+          let den = own (power x o 60) sums.power (l - 4) best.lag above below own-power in
           ap (λ (k : ℕ). get_or sums.cross k nan ⧄ get_or sums.power k nan) i
           ∙ ap (λ (z : Float). z ⧄ get_or sums.power (l - 4 + 7 - best.lag) nan) num
           ∙ ap (λ (z : Float). cross x o 60 best.lag ⧄ z) den
 
-      pub one_won : (e : Float) (r : HnsParams) → e ≡ delayed q o 60 0
+      pub one_won : (e : Float) (r : HnsParams) → e ≡ power x o 60 0
           → r ≡ settled best e (get_or sums.cross (l + 3 - best.lag) nan ⧄ get_or sums.power (l + 3 - best.lag) nan)
           → r ≡ settings limit x o l
       unfolding settings shaped
-      one_won e r d h = rw (← shaping_winner, ← kept_power x q 265 o 60 0 pre.1.1.1.1 (omega arith), ← gain_of, ← d) h
+      one_won e r d h = rw (← shaping_winner, ← gain_of, ← d) h
 
 -- ---- over a copy of the samples that count
 shaped_window : (x w : List Float) (m o : ℕ) (before : m ≤ o) (r : Copy x w (o - m) (m + 60)) (s : Best) → s.lag ≤ m

@@ -1,12 +1,18 @@
 -- `open_loop_pitch`: the whole answer on every buffer, for lags 18 up to the caller's limit. As many samples of history as its lags
 -- reach back stand before the frame.
 -- §2.9; document 01, B48 to B51, with B1 to B4 for the refusals; document 02, E6.5, E6.6, E6.8 and E6.10. Assumes nothing.
-use Rattle.std.specs.Prelude.{Bool, not, List, [], ◌∷◌, ℕ, suc, ◌+◌, ◌*◌, ltb, Float, length, take}
+use Rattle.std.specs.Prelude.{Bool, not, List, [], ◌∷◌, ℕ, suc, ◌+◌, ◌*◌, ltb, Float, length, take, Result}
 use Rattle.float.specs.Finite.{not_finite}
 use Rattle.float.specs.Refusal.{first, answer}
+use Rattle.float.specs.Answered.{answered}
+use Rattle.float.specs.declared.status.Refusal.{Refusal}
 use Rattle.lag_limit.specs.Limit.{known, reach}
-use Rattle.pitch.specs.declared.OpenLoop.{OpenLoop}
 use Rattle.lags.specs.Search.{winner, preferred}
+
+-- the lag of one half of the frame
+pub record OpenLoop : Type 0 where
+  pub status : ℕ
+  pub lag : ℕ
 
 unfoldable pub refused_pitch : ℕ → OpenLoop
 refused_pitch n = record { status = n; lag = 0 }
@@ -25,3 +31,7 @@ unfoldable pub open_loop_pitch : ℕ → List Float → ℕ → OpenLoop
 open_loop_pitch limit w half =
     answer (first (pitch_refusals limit w half)) refused_pitch
     (record { status = 0; lag = (winner preferred w (start limit half) 120 18 (suc limit)).lag })
+
+-- the answer of the code
+abbrev pub as_pitch : Result ℕ Refusal → OpenLoop
+as_pitch = answered refused_pitch (λ lag. record { status = 0; lag = lag })

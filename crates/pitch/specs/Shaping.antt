@@ -1,19 +1,19 @@
 -- `harmonic_noise_shaping`: the whole answer on every buffer, for open-loop lags 18 up to the caller's limit; three lags more are
 -- searched on either side.
 -- §2.11; document 01, B52 to B58, with B1 to B4 for the refusals; document 02, E6.5, E6.6 and E6.8 to E6.10. Assumes nothing.
-use Rattle.std.specs.Prelude.{Bool, not, ◌||◌, cond, List, [], ◌∷◌, ℕ, suc, ◌+◌, ◌-◌, max, min, ltb, Float, length, take, drop}
+use Rattle.std.specs.Prelude.{Bool, not, ◌||◌, cond, List, [], ◌∷◌, ℕ, suc, ◌+◌, ◌-◌, max, min, ltb, Float, length, take, drop, Result}
 use Rattle.std.specs.Float.Ieee.{lt, le}
 use Rattle.float.specs.Finite.{not_finite}
 use Rattle.float.specs.Refusal.{first, answer}
+use Rattle.float.specs.Answered.{answered}
+use Rattle.float.specs.declared.status.Refusal.{Refusal}
 use Rattle.float.specs.Single.{◌⊗◌, single}
 use Rattle.float.specs.Double.{double}
 use Rattle.float.specs.Narrow.{narrow}
 use Rattle.lag_limit.specs.Limit.{known, reach}
-use Rattle.lags.specs.declared.Best.{Best}
 use Rattle.pitch.specs.declared.HnsParams.{HnsParams}
-use Rattle.pitch.specs.declared.Shaping.{Shaping}
 use Rattle.lags.specs.Lags.{power, gain}
-use Rattle.lags.specs.Search.{winner, greater}
+use Rattle.lags.specs.Search.{Best, winner, greater}
 use Rattle.pitch.specs.Gate.{passes}
 
 -- lag 18 with factor 0
@@ -40,6 +40,11 @@ shaped f o best = settled best (power f o 60 0) (gain f o 60 best.lag)
 unfoldable pub settings : ℕ → List Float → ℕ → ℕ → HnsParams
 settings limit f o l = shaped f o (winner greater f o 60 (max 18 (l - 3)) (suc (min (reach limit) (l + 3))))
 
+-- the settings of one subframe
+pub record Shaping : Type 0 where
+  pub status : ℕ
+  pub params : HnsParams
+
 unfoldable pub refused_shaping : ℕ → Shaping
 refused_shaping n = record { status = n; params = record { lag = 0; beta = single 0 1 } }
 
@@ -60,3 +65,7 @@ shaping_refusals limit w place l =
 unfoldable pub harmonic_noise_shaping : ℕ → List Float → ℕ → ℕ → Shaping
 harmonic_noise_shaping limit w place l =
     answer (first (shaping_refusals limit w place l)) refused_shaping (record { status = 0; params = settings limit w place l })
+
+-- the answer of the code
+abbrev pub as_shaping : Result HnsParams Refusal → Shaping
+as_shaping = answered refused_shaping (λ params. record { status = 0; params = params })

@@ -5,3 +5,4 @@ pub mod Entry
 pub mod Fall
 pub mod Doubling
 pub mod Neighbour
+pub mod Search

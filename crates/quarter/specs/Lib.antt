@@ -1,2 +1,3 @@
 pub mod Quarter
 pub mod Rules
+pub mod inner

@@ -1,11 +1,13 @@
-// The quarter cosine of document 01's cosine rule: 2,049 whole numbers, and nothing else, since each edit rechecks all that stands on them.
+// The quarter cosine of document 01's cosine rule: 2,049 whole numbers and how they are read, and nothing else, since each edit rechecks
+// all that stands on them.
 // Entry i is the whole number nearest 2^30 × cos(π × i / 4096).
 #![tactic(auto)]
 
-ghost use Rattle.std.specs.Prelude.{◌≡◌};
-ghost use Rattle.quarter.specs.Quarter.{quarter_table};
+ghost use Rattle.std.specs.Prelude.{◌≡◌, ◌≤◌};
+ghost use Rattle.quarter.specs.Quarter.{quarter};
+ghost use Rattle.quarter.specs.inner.Above.{LastAbove};
 
-pub const QUARTER_COSINE: [u32; 2049] = [
+pub static QUARTER_COSINE: [u32; 2049] = [
     1073741824, 1073741508, 1073740561, 1073738982, 1073736771, 1073733928, 1073730454, 1073726348,
     1073721611, 1073716242, 1073710241, 1073703609, 1073696345, 1073688450, 1073679922, 1073670764,
     1073660973, 1073650551, 1073639498, 1073627812, 1073615496, 1073602547, 1073588967, 1073574756,
@@ -263,9 +265,17 @@ pub const QUARTER_COSINE: [u32; 2049] = [
     1647099, 823550, 0,
 ];
 
-// The whole table. A caller binds it once, and lends it to what reads it.
-pub fn entries() -> [u32; 2049]
-    ensures { result ≡ quarter_table }
+// Entry i. The table is a static, which has an address: nobody copies it or lends it on.
+pub fn at(i: usize) -> u32
+    requires { i ≤ 2048 }
+    ensures { result ≡ quarter i }
 {
-    QUARTER_COSINE
+    QUARTER_COSINE[i]
+}
+
+// Of the entries from 1 to 2,047, how many are above q: the place of the last one that is, or 0.
+pub fn last_above(q: u64) -> usize
+    ensures { LastAbove q result }
+{
+    QUARTER_COSINE[1..2048].partition_point(|e| u64::from(*e) > q)
 }

@@ -1,60 +1,63 @@
-// One function for each operation: it answers whether the library gives a record's answer. A record is the operation's number,
-// what is given, the status and the results; a refusal's results are zeros, and memories as they were.
-ghost use Rattle.std.specs.Prelude.{◌≡◌, ◌≤◌};
+// One function for each operation: whether the library gives a record's answer. A record is the operation's number, what is
+// given, the status and the results; a refusal's results are zeros, and memories as they were.
+// The numbers are the list's own: an enum would be a third table of the same twenty.
+ghost use Rattle.std.specs.Prelude.{◌≤◌};
 
-use crate::record::{doubles_match, load, load_shorts, matches, wide};
+use crate::words::Words;
+use combined::CombinedMem;
+use frame::{Coder, Frame};
 
 // How many samples a record of a variable length may give.
-const MOST: usize = 505;
+const MOST: u32 = 505;
 
-fn count(w: u32) -> usize
-    ensures { result ≡ w }
+// The length of a record that has so many samples and so many words beside them.
+fn with_samples(samples: u32, others: usize) -> Option<usize>
+    requires { others ≤ 512 }
 {
-    w as usize
+    if samples > MOST {
+        return None;
+    }
+    Some(samples as usize + others)
 }
 
-// The length of a record that has so many samples and so many words beside them; 0 where there are too many.
-fn with_samples(samples: u32, others: usize) -> usize {
-    let n = count(samples);
-    if n > MOST {
-        return 0;
+// How many words a record has, by its operation.
+fn length_of(record: &[u32]) -> Option<usize> {
+    match record {
+        [1, n, ..] => with_samples(*n, 37),
+        [2, ..] => Some(23),
+        [3 | 4, ..] => Some(22),
+        [5, ..] => Some(33),
+        [6, ..] => Some(23),
+        [7, ..] => Some(24),
+        [8, ..] => Some(34),
+        [9, ..] => Some(23),
+        [10, ..] => Some(33),
+        [11, n, ..] => with_samples(*n, 123),
+        [12, _, n, ..] => with_samples(*n, 7),
+        [13, _, n, ..] => with_samples(*n, 9),
+        [14, ..] => Some(506),
+        [15, ..] => Some(96),
+        [16, ..] => Some(187),
+        [17, ..] => with_samples(*record.get(186)?, 429),
+        [18 | 19, ..] => Some(6),
+        [25, ..] => Some(179),
+        _ => None,
     }
-    if others > 512 {
-        return 0;
-    }
-    n + others
 }
 
-// How many words the record has, by its operation; 0 where there is none.
-pub fn length_of(words: &[u32; 1024]) -> usize {
-    let operation = words[0];
-    match operation {
-        1 => with_samples(words[1], 37),
-        2 => 23,
-        3 | 4 => 22,
-        5 => 33,
-        6 => 23,
-        7 => 24,
-        8 => 34,
-        9 => 23,
-        10 => 33,
-        11 => with_samples(words[1], 123),
-        12 => with_samples(words[2], 7),
-        13 => with_samples(words[2], 9),
-        14 => 506,
-        15 => 96,
-        16 => 187,
-        17 => with_samples(words[186], 429),
-        18 | 19 => 6,
-        25 => 179,
-        _ => 0,
-    }
+// The record, if an operation has one of that length.
+pub fn known(record: &[u32]) -> Option<&[u32]> {
+    (length_of(record) == Some(record.len())).then_some(record)
 }
 
 // Whether the library gives the record's answer.
-pub fn agrees(words: &[u32; 1024]) -> bool {
-    let operation = words[0];
-    match operation {
+pub fn answered(record: &[u32]) -> bool {
+    let mut words = Words::new(record);
+    agrees(&mut words).is_some()
+}
+
+fn agrees(words: &mut Words) -> Option<()> {
+    match words.word()? {
         1 => lpc_analysis(words),
         2 => lpc_to_lsp(words),
         3 => lsp_cosines_to_freq(words),
@@ -75,353 +78,278 @@ pub fn agrees(words: &[u32; 1024]) -> bool {
         18 => split_lsp_index(words),
         19 => combine_lsp_index(words),
         25 => new_filter_memory(words),
-        _ => false,
+        _ => None,
     }
 }
 
-fn lpc_analysis(words: &[u32; 1024]) -> bool {
-    let n = count(words[1]);
-    if n > 470 {
-        return false;
+fn lpc_analysis(words: &mut Words) -> Option<()> {
+    let window = words.samples(466)?;
+    match lpc::lpc_analysis(&window) {
+        Ok(set) => {
+            words.is(0)?;
+            words.are(&set.a)?;
+            words.doubles_are(&set.r)?;
+            words.are(&[set.k2])
+        }
+        Err(refusal) => words.refused(refusal),
     }
-    let mut samples = [0.0f32; 510];
-    load(words, 2, &mut samples);
-    let answer = lpc::lpc_analysis(&samples[0..n]);
-    let set = answer.set;
-    let a = set.a;
-    let r = set.r;
-    let at = n + 2;
-    let same_a = matches(&a, words, at + 1);
-    let same_r = doubles_match(&r, words, at + 12);
-    let same_k2 = float::same_bits(set.k2, words[at + 34]);
-    (answer.status == words[at]) & same_a & same_r & same_k2
 }
 
-fn lpc_to_lsp(words: &[u32; 1024]) -> bool {
-    let mut a = [0.0f32; 11];
-    load(words, 1, &mut a);
-    let answer = lsp::lpc_to_lsp(a);
-    let lines = answer.lines;
-    let same = matches(&lines, words, 13);
-    (answer.status == words[12]) & same
+fn lpc_to_lsp(words: &mut Words) -> Option<()> {
+    let answer = lsp::lpc_to_lsp(words.singles()?);
+    words.lines(answer)
 }
 
-fn lsp_cosines_to_freq(words: &[u32; 1024]) -> bool {
-    let mut cosines = [0.0f32; 10];
-    load(words, 1, &mut cosines);
-    let answer = convert::lsp_cosines_to_freq(cosines);
-    let freq = answer.lines;
-    let same = matches(&freq, words, 12);
-    (answer.status == words[11]) & same
+fn lsp_cosines_to_freq(words: &mut Words) -> Option<()> {
+    let answer = convert::lsp_cosines_to_freq(words.singles()?);
+    words.lines(answer)
 }
 
-fn lsp_freq_to_cosines(words: &[u32; 1024]) -> bool {
-    let mut freq = [0.0f32; 10];
-    load(words, 1, &mut freq);
-    let answer = convert::lsp_freq_to_cosines(freq);
-    let cosines = answer.lines;
-    let same = matches(&cosines, words, 12);
-    (answer.status == words[11]) & same
+fn lsp_freq_to_cosines(words: &mut Words) -> Option<()> {
+    let answer = convert::lsp_freq_to_cosines(words.singles()?);
+    words.lines(answer)
 }
 
-fn quantise_lsp_freq(words: &[u32; 1024]) -> bool {
-    let mut p = [0.0f32; 10];
-    let mut prev = [0.0f32; 10];
-    load(words, 1, &mut p);
-    load(words, 11, &mut prev);
-    let answer = spec_lsp::quantise::quantise_lsp_freq(p, prev);
-    let set = answer.set;
-    let same = matches(&set, words, 23);
-    (answer.status == words[21]) & (answer.index == words[22]) & same
+fn quantise_lsp_freq(words: &mut Words) -> Option<()> {
+    let p = words.singles()?;
+    let prev = words.singles()?;
+    match spec_lsp::quantise::quantise_lsp_freq(p, prev) {
+        Ok(sent) => {
+            words.is(0)?;
+            words.is(sent.index)?;
+            words.are(&sent.set)
+        }
+        Err(refusal) => words.refused(refusal),
+    }
 }
 
-fn decode_lsp_freq(words: &[u32; 1024]) -> bool {
-    let mut prev = [0.0f32; 10];
-    load(words, 2, &mut prev);
-    let answer = spec_lsp::decode::decode_lsp_freq(words[1], prev);
-    let set = answer.lines;
-    let same = matches(&set, words, 13);
-    (answer.status == words[12]) & same
+fn decode_lsp_freq(words: &mut Words) -> Option<()> {
+    let index = words.word()?;
+    let answer = spec_lsp::decode::decode_lsp_freq(index, words.singles()?);
+    words.lines(answer)
 }
 
-fn split_lsp_index(words: &[u32; 1024]) -> bool {
-    let answer = lsp_index::split_lsp_index(words[1]);
-    let bands = answer.bands;
-    let same = ((bands[0] as u32) == words[3])
-        & ((bands[1] as u32) == words[4])
-        & ((bands[2] as u32) == words[5]);
-    (answer.status == words[2]) & same
+fn split_lsp_index(words: &mut Words) -> Option<()> {
+    match lsp_index::split_lsp_index(words.word()?) {
+        Ok(bands) => {
+            words.is(0)?;
+            for band in bands {
+                words.is(u32::from(band))?;
+            }
+            Some(())
+        }
+        Err(refusal) => words.refused(refusal),
+    }
 }
 
 // It refuses nothing.
-fn combine_lsp_index(words: &[u32; 1024]) -> bool {
-    let bands = [
-        (words[1] % 256) as u8,
-        (words[2] % 256) as u8,
-        (words[3] % 256) as u8,
-    ];
-    (words[4] == 0) & (lsp_index::combine_lsp_index(bands) == words[5])
+fn combine_lsp_index(words: &mut Words) -> Option<()> {
+    let bands = [words.byte()?, words.byte()?, words.byte()?];
+    words.is(0)?;
+    words.is(lsp_index::combine_lsp_index(bands))
 }
 
-fn enforce_lsp_stability(words: &[u32; 1024]) -> bool {
-    let mut cosines = [0.0f32; 10];
-    load(words, 1, &mut cosines);
-    let spacing = float::of_bits(words[11]);
-    let answer = stability::enforce_lsp_stability(cosines, spacing);
-    let lines = answer.cosines;
-    let same = matches(&lines, words, 13);
-    (answer.status == words[12]) & same & ((answer.converged as u32) == words[23])
-}
-
-fn interpolate_lsp(words: &[u32; 1024]) -> bool {
-    let mut prev = [0.0f32; 10];
-    let mut cur = [0.0f32; 10];
-    load(words, 3, &mut prev);
-    load(words, 13, &mut cur);
-    let choice = wide(words[1], words[2]) as usize;
-    let answer = lsp_filter::interpolate_lsp(choice, prev, cur);
-    let lines = answer.lines;
-    let same = matches(&lines, words, 24);
-    (answer.status == words[23]) & same
-}
-
-fn lsp_to_lpc(words: &[u32; 1024]) -> bool {
-    let mut lines = [0.0f32; 10];
-    load(words, 1, &mut lines);
-    let answer = lsp_filter::lsp_to_lpc(lines);
-    let a = answer.a;
-    let same = matches(&a, words, 12);
-    (answer.status == words[11]) & same
-}
-
-fn weighting_taps(words: &[u32; 1024]) -> bool {
-    let mut a = [0.0f32; 11];
-    load(words, 1, &mut a);
-    let answer = weighting::weighting_taps(a);
-    let zeros = answer.wz;
-    let poles = answer.wp;
-    let same_zeros = matches(&zeros, words, 13);
-    let same_poles = matches(&poles, words, 23);
-    (answer.status == words[12]) & same_zeros & same_poles
-}
-
-fn weighted(words: &[u32; 1024], n: usize) -> weighting::Weighted
-    requires { n ≤ 380 }
-{
-    let at = n + 2;
-    let mut samples = [0.0f32; 510];
-    let mut wz = [0.0f32; 10];
-    let mut wp = [0.0f32; 10];
-    let mut x_mem = [0.0f32; 10];
-    let mut f_mem = [0.0f32; 10];
-    load(words, 2, &mut samples);
-    load(words, at, &mut wz);
-    load(words, at + 10, &mut wp);
-    load(words, at + 20, &mut x_mem);
-    load(words, at + 30, &mut f_mem);
-    weighting::weight_subframe(&samples[0..n], wz, wp, x_mem, f_mem)
-}
-
-fn weight_subframe(words: &[u32; 1024]) -> bool {
-    let n = count(words[1]);
-    if n > 380 {
-        return false;
+fn enforce_lsp_stability(words: &mut Words) -> Option<()> {
+    let cosines = words.singles()?;
+    match stability::enforce_lsp_stability(cosines, words.single()?) {
+        Ok(stabilised) => {
+            words.is(0)?;
+            words.are(&stabilised.cosines)?;
+            words.is(u32::from(stabilised.converged))
+        }
+        Err(refusal) => words.refused(refusal),
     }
-    let at = n + 2;
-    let status = words[at + 40];
-    let answer = weighted(words, n);
-    let inputs = answer.x_mem;
-    let outputs = answer.f_mem;
-    let out = answer.out;
-    let same_inputs = matches(&inputs, words, at + 41);
-    let same_outputs = matches(&outputs, words, at + 51);
-    let same_out = matches(&out, words, at + 61);
-    (answer.status == status) & same_inputs & same_outputs & same_out
 }
 
-fn open_loop_pitch(words: &[u32; 1024]) -> bool {
-    let n = count(words[2]);
-    if n > MOST {
-        return false;
+fn interpolate_lsp(words: &mut Words) -> Option<()> {
+    let choice = words.place()?;
+    let prev = words.singles()?;
+    let answer = lsp_filter::interpolate_lsp(choice, prev, words.singles()?);
+    words.lines(answer)
+}
+
+fn lsp_to_lpc(words: &mut Words) -> Option<()> {
+    let answer = lsp_filter::lsp_to_lpc(words.singles()?);
+    words.lines(answer)
+}
+
+fn weighting_taps(words: &mut Words) -> Option<()> {
+    match weighting::weighting_taps(words.singles()?) {
+        Ok(taps) => {
+            words.is(0)?;
+            words.are(&taps.wz)?;
+            words.are(&taps.wp)
+        }
+        Err(refusal) => words.refused(refusal),
     }
-    let at = n + 3;
-    let mut samples = [0.0f32; 510];
-    load(words, 3, &mut samples);
-    let half = wide(words[at], words[at + 1]) as usize;
-    let answer = pitch::open_loop_pitch(words[1], &samples[0..n], half);
-    (answer.status == words[at + 2]) & (answer.lag == words[at + 3])
 }
 
-fn harmonic_noise_shaping(words: &[u32; 1024]) -> bool {
-    let n = count(words[2]);
-    if n > 500 {
-        return false;
+fn weight_subframe(words: &mut Words) -> Option<()> {
+    let x = words.samples(380)?;
+    let wz = words.singles()?;
+    let wp = words.singles()?;
+    let x_mem = words.singles()?;
+    let f_mem = words.singles()?;
+    match weighting::weight_subframe(&x, wz, wp, x_mem, f_mem) {
+        Ok(weighted) => {
+            words.is(0)?;
+            words.are(&weighted.x_mem)?;
+            words.are(&weighted.f_mem)?;
+            words.are(&weighted.out)
+        }
+        Err(refusal) => {
+            words.is(refusal.number())?;
+            words.are(&x_mem)?;
+            words.are(&f_mem)?;
+            words.zeros()
+        }
     }
-    let at = n + 3;
-    let mut samples = [0.0f32; 510];
-    load(words, 3, &mut samples);
-    let place = wide(words[at], words[at + 1]) as usize;
-    let answer = pitch::harmonic_noise_shaping(words[1], &samples[0..n], place, words[at + 2]);
-    let params = answer.params;
-    let same = float::same_bits(params.beta, words[at + 5]);
-    (answer.status == words[at + 3]) & (params.lag == words[at + 4]) & same
 }
 
-fn run_combined(words: &[u32; 1024]) -> bool {
-    let mut syn = [0.0f32; 10];
-    let mut wz_mem = [0.0f32; 10];
-    let mut wp_mem = [0.0f32; 10];
-    let mut p_hist = [0.0f32; 145];
-    let mut input = [0.0f32; 60];
-    let mut aq = [0.0f32; 11];
-    let mut wz = [0.0f32; 10];
-    let mut wp = [0.0f32; 10];
-    load(words, 2, &mut syn);
-    load(words, 12, &mut wz_mem);
-    load(words, 22, &mut wp_mem);
-    load(words, 32, &mut p_hist);
-    load(words, 177, &mut input);
-    load(words, 237, &mut aq);
-    load(words, 248, &mut wz);
-    load(words, 258, &mut wp);
-    let limit = words[1];
-    let mem = combined::CombinedMem {
-        syn,
-        wz: wz_mem,
-        wp: wp_mem,
-        p_hist,
+fn open_loop_pitch(words: &mut Words) -> Option<()> {
+    let limit = words.word()?;
+    let wbuf = words.samples(505)?;
+    match pitch::open_loop_pitch(limit, &wbuf, words.place()?) {
+        Ok(lag) => {
+            words.is(0)?;
+            words.is(lag)
+        }
+        Err(refusal) => words.refused(refusal),
+    }
+}
+
+fn harmonic_noise_shaping(words: &mut Words) -> Option<()> {
+    let limit = words.word()?;
+    let wbuf = words.samples(500)?;
+    let place = words.place()?;
+    let l_ol = words.word()?;
+    match pitch::harmonic_noise_shaping(limit, &wbuf, place, l_ol) {
+        Ok(params) => {
+            words.is(0)?;
+            words.is(params.lag)?;
+            words.are(&[params.beta])
+        }
+        Err(refusal) => words.refused(refusal),
+    }
+}
+
+fn given_memory(words: &mut Words) -> Option<CombinedMem> {
+    let limit = words.word()?;
+    Some(CombinedMem {
+        syn: words.singles()?,
+        wz: words.singles()?,
+        wp: words.singles()?,
+        p_hist: words.singles()?,
         limit,
-    };
-    let beta = float::of_bits(words[269]);
-    let answer = combined_lent::run_combined_lending(mem, input, aq, wz, wp, words[268], beta);
-    let after = answer.mem;
-    let out = answer.out;
-    // no call alters the limit
-    let same_limit = after.limit == limit;
-    let same_mem = memory_matches(after, words, 271);
-    let same_out = matches(&out, words, 446);
-    (answer.status == words[270]) & same_limit & same_mem & same_out
+    })
 }
 
-// The four memories that stand from `at` on.
-fn memory_matches(mem: combined::CombinedMem, words: &[u32; 1024], at: usize) -> bool
-    requires { at ≤ 800 }
-{
-    let syn = mem.syn;
-    let wz = mem.wz;
-    let wp = mem.wp;
-    let p_hist = mem.p_hist;
-    let same_syn = matches(&syn, words, at);
-    let same_wz = matches(&wz, words, at + 10);
-    let same_wp = matches(&wp, words, at + 20);
-    let same_hist = matches(&p_hist, words, at + 30);
-    same_syn & same_wz & same_wp & same_hist
+// The four memories.
+fn memory_is(words: &mut Words, mem: &CombinedMem) -> Option<()> {
+    words.are(&mem.syn)?;
+    words.are(&mem.wz)?;
+    words.are(&mem.wp)?;
+    words.are(&mem.p_hist)
 }
 
-fn new_filter_memory(words: &[u32; 1024]) -> bool {
-    let answer = combined::CombinedMem::new(words[1]);
-    let mem = answer.mem;
-    let same_limit = mem.limit == words[3];
-    let same_mem = memory_matches(mem, words, 4);
-    (answer.status == words[2]) & same_limit & same_mem
-}
-
-fn combined_impulse_response(words: &[u32; 1024]) -> bool {
-    let mut aq = [0.0f32; 11];
-    let mut wz = [0.0f32; 10];
-    let mut wp = [0.0f32; 10];
-    load(words, 2, &mut aq);
-    load(words, 13, &mut wz);
-    load(words, 23, &mut wp);
-    let limit = words[1];
-    let beta = float::of_bits(words[34]);
-    let answer = impulse::combined_impulse_response(limit, aq, wz, wp, words[33], beta);
-    let out = answer.out;
-    let same = matches(&out, words, 36);
-    (answer.status == words[35]) & same
-}
-
-fn new_coder(words: &[u32; 1024]) -> bool {
-    let coder = frame::Coder::new();
-    let same = coder_matches(coder, words, 2);
-    (words[1] == 0) & same
-}
-
-// The five memories that stand from `at` on.
-fn coder_matches(coder: frame::Coder, words: &[u32; 1024], at: usize) -> bool
-    requires { at ≤ 800 }
-{
-    let set = coder.set;
-    let lines = coder.lines;
-    let x_mem = coder.x_mem;
-    let f_mem = coder.f_mem;
-    let weighted = coder.weighted;
-    let same_set = matches(&set, words, at);
-    let same_lines = matches(&lines, words, at + 10);
-    let same_inputs = matches(&x_mem, words, at + 20);
-    let same_outputs = matches(&f_mem, words, at + 30);
-    let same_speech = matches(&weighted, words, at + 40);
-    same_set & same_lines & same_inputs & same_outputs & same_speech
-}
-
-fn given_coder(words: &[u32; 1024]) -> frame::Coder {
-    let mut set = [0.0f32; 10];
-    let mut lines = [0.0f32; 10];
-    let mut x_mem = [0.0f32; 10];
-    let mut f_mem = [0.0f32; 10];
-    let mut weighted = [0.0f32; 145];
-    load(words, 1, &mut set);
-    load(words, 11, &mut lines);
-    load(words, 21, &mut x_mem);
-    load(words, 31, &mut f_mem);
-    load(words, 41, &mut weighted);
-    frame::Coder {
-        set,
-        lines,
-        x_mem,
-        f_mem,
-        weighted,
+fn run_combined(words: &mut Words) -> Option<()> {
+    let mem = given_memory(words)?;
+    let input = words.singles()?;
+    let aq = words.singles()?;
+    let wz = words.singles()?;
+    let wp = words.singles()?;
+    let lag = words.word()?;
+    let beta = words.single()?;
+    match combined_lent::run_combined_lending(mem, input, aq, wz, wp, lag, beta) {
+        Ok(answer) => {
+            words.is(0)?;
+            memory_is(words, &answer.mem)?;
+            words.are(&answer.out)?;
+            // no call alters the limit
+            (answer.mem.limit == mem.limit).then_some(())
+        }
+        Err(refusal) => {
+            words.is(refusal.number())?;
+            memory_is(words, &mem)?;
+            words.zeros()
+        }
     }
 }
 
-// The four settings, first the lags and then the factors, stand from `at` on.
-fn shaping_matches(shaping: [pitch::HnsParams; 4], words: &[u32; 1024], at: usize) -> bool
-    requires { at ≤ 900 }
-{
-    let s0 = shaping[0];
-    let s1 = shaping[1];
-    let s2 = shaping[2];
-    let s3 = shaping[3];
-    let same_lags = (s0.lag == words[at])
-        & (s1.lag == words[at + 1])
-        & (s2.lag == words[at + 2])
-        & (s3.lag == words[at + 3]);
-    let same_0 = float::same_bits(s0.beta, words[at + 4]);
-    let same_1 = float::same_bits(s1.beta, words[at + 5]);
-    let same_2 = float::same_bits(s2.beta, words[at + 6]);
-    let same_3 = float::same_bits(s3.beta, words[at + 7]);
-    same_lags & same_0 & same_1 & same_2 & same_3
+fn new_filter_memory(words: &mut Words) -> Option<()> {
+    match CombinedMem::new(words.word()?) {
+        Ok(mem) => {
+            words.is(0)?;
+            words.is(mem.limit)?;
+            memory_is(words, &mem)
+        }
+        Err(refusal) => words.refused(refusal),
+    }
 }
 
-fn code_frame(words: &[u32; 1024]) -> bool {
-    let n = count(words[186]);
-    if n > MOST {
-        return false;
+fn combined_impulse_response(words: &mut Words) -> Option<()> {
+    let limit = words.word()?;
+    let aq = words.singles()?;
+    let wz = words.singles()?;
+    let wp = words.singles()?;
+    let lag = words.word()?;
+    let beta = words.single()?;
+    words.lines(impulse::combined_impulse_response(limit, aq, wz, wp, lag, beta))
+}
+
+fn new_coder(words: &mut Words) -> Option<()> {
+    words.is(0)?;
+    coder_is(words, &Coder::new())
+}
+
+fn given_coder(words: &mut Words) -> Option<Coder> {
+    Some(Coder {
+        set: words.singles()?,
+        lines: words.singles()?,
+        x_mem: words.singles()?,
+        f_mem: words.singles()?,
+        weighted: words.singles()?,
+    })
+}
+
+// The five memories.
+fn coder_is(words: &mut Words, coder: &Coder) -> Option<()> {
+    words.are(&coder.set)?;
+    words.are(&coder.lines)?;
+    words.are(&coder.x_mem)?;
+    words.are(&coder.f_mem)?;
+    words.are(&coder.weighted)
+}
+
+// The lags of both halves; the four settings, first the lags and then the factors; the filters.
+fn frame_is(words: &mut Words, frame: &Frame) -> Option<()> {
+    words.is(frame.index)?;
+    for lag in frame.pitch {
+        words.is(lag)?;
     }
-    let at = n + 188;
-    let mut samples = [0i16; 510];
-    load_shorts(words, 187, &mut samples);
-    let coder = given_coder(words);
-    let spacing = float::of_bits(words[n + 187]);
-    let answer = frame::code_frame(coder, &samples[0..n], spacing);
-    let after = answer.coder;
-    let lags = answer.pitch;
-    let shaping = answer.shaping;
-    let a = answer.a;
-    let same_coder = coder_matches(after, words, at + 1);
-    let same_lags = (lags[0] == words[at + 187]) & (lags[1] == words[at + 188]);
-    let same_shaping = shaping_matches(shaping, words, at + 189);
-    let same_a = matches(&a, words, at + 197);
-    let same_index = answer.index == words[at + 186];
-    (answer.status == words[at]) & same_coder & same_index & same_lags & same_shaping & same_a
+    for setting in &frame.shaping {
+        words.is(setting.lag)?;
+    }
+    for setting in &frame.shaping {
+        words.are(&[setting.beta])?;
+    }
+    words.are(&frame.a)
+}
+
+fn code_frame(words: &mut Words) -> Option<()> {
+    let coder = given_coder(words)?;
+    let x = words.shorts(505)?;
+    let spacing = words.single()?;
+    match frame::code_frame(coder, &x, spacing) {
+        Ok(frame) => {
+            words.is(0)?;
+            coder_is(words, &frame.coder)?;
+            frame_is(words, &frame)
+        }
+        Err(refusal) => {
+            words.is(refusal.number())?;
+            coder_is(words, &coder)?;
+            words.zeros()
+        }
+    }
 }

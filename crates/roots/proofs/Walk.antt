@@ -8,20 +8,21 @@ use mathlib.Core.List.{List, [], ◌∷◌, ◌++◌, map, append-nil}
 use Prim.Native.Nat.{ℕ, ◌+◌, ◌-◌, ◌≤◌, ◌<◌, zero-le}
 use native.Mathlib.Nat.{not-suc-le-zero}
 use native.Mathlib.Omega.{arith}
-use borrow.Author.Tests.{ltb-true}
+use borrow.Author.Tests.{ltb-true, ltb-false, le-ltb}
 use lib.Dec.{ltb, lit≤}
 use lib.Ieee.{Float, nan, eq, lt}
-use lib.ListN.{length, get_or, length-append, length-set, get_or-append}
+use lib.ListN.{length, get_or, length-append, length-set, get_or-append, get_or-map}
 use lib.Seq.{get_or_at, get_or-set_same, get_or-set_other}
 use Rattle.float.specs.Table.{table}
 use Rattle.float.specs.Narrow.{narrow}
 use Rattle.float.specs.Double.{◌⊠◌, double}
 use Rattle.float.proofs.Loop.{one_more}
-use Rattle.float.proofs.Table.{same_table, map_table}
+use Rattle.float.proofs.Table.{same_table, at_table, map_table}
 use Rattle.float.proofs.Turns.{beside}
-use Rattle.roots.specs.declared.Crossings.{Crossings}
+use Rattle.std.specs.Prelude.{Some, None}
+use Rattle.roots.specs.declared.Crossing.{Crossing}
 use Rattle.roots.specs.Root.{point, root_between, recorded, walked, roots_of}
-use Rattle.roots.specs.inner.Scan.{there, met, noted, scanned, no_crossings, crossings, root_in, roots_in}
+use Rattle.roots.specs.inner.Scan.{Crossings, crossed, all_five, there, met, noted, scanned, no_crossings, crossings, root_in, roots_in}
 
 -- the root in the pair of points at place k of what the scan has noted
 noted_root : List Float → Crossings → ℕ → Float
@@ -117,3 +118,48 @@ scan_finds c h =
     let five : length (roots_of c) ≡ 5 = omega (arith, r.count, r.most) in
     same_table 5 (roots_in c (crossings c)) (λ k. narrow (get_or (roots_of c) k nan)) (λ k l. ap narrow (sym (r.roots k (omega arith))))
     ∙ sym (map_table narrow (roots_of c) 5 nan five)
+
+-- ---- by what the code answers
+pub scan_few : (c : List Float) → None ≡ all_five (crossings c) → ltb (length (roots_of c)) 5 ≡ true
+scan_few c h = rw (scan_counts c) (few (ltb (crossings c).count 5) _ h)
+  where
+    few : (b : Bool) (xs : List Crossing) → None ≡ cond b None (Some xs) → b ≡ true
+    few true xs h = refl
+    few false xs h = cc
+
+-- five crossings have the ends that were noted
+record Noted_all (s : Crossings) (xs : List Crossing) : Type 0 where
+  enough : 5 ≤ s.count
+  low : (k : ℕ) → k < 5 → get_or (crossed 5 xs).low k nan ≡ get_or s.low k nan
+  high : (k : ℕ) → k < 5 → get_or (crossed 5 xs).high k nan ≡ get_or s.high k nan
+
+noted_all : (s : Crossings) (xs : List Crossing) → Some xs ≡ all_five s → Noted_all s xs
+noted_all s xs h = go (ltb s.count 5) refl h
+  where
+    unmet : Crossing
+    unmet = record { low = nan; high = nan }
+
+    ends : ℕ → Crossing
+    ends k = record { low = get_or s.low k nan; high = get_or s.high k nan }
+
+    go : (b : Bool) → ltb s.count 5 ≡ b → Some xs ≡ cond b None (Some (table 5 ends)) → Noted_all s xs
+    go true e h = cc
+    go false e h =
+        let same : xs ≡ table 5 ends = cc in
+        let place : (k : ℕ) → k < 5 → get_or xs k unmet ≡ ends k = λ k l. rw same (at_table 5 ends k unmet l) in
+        record {
+          enough = ltb-false s.count 5 e;
+          low = λ k l. get_or-map (λ (m : Crossing). m.low) xs k unmet ∙ ap (λ (m : Crossing). m.low) (place k l);
+          high = λ k l. get_or-map (λ (m : Crossing). m.high) xs k unmet ∙ ap (λ (m : Crossing). m.high) (place k l);
+        }
+
+pub scan_enough : (c : List Float) (xs : List Crossing) → Some xs ≡ all_five (crossings c) → ltb (length (roots_of c)) 5 ≡ false
+scan_enough c xs h = rw (scan_counts c, le-ltb (crossings c).count 5 (noted_all (crossings c) xs h).enough)
+
+pub scan_refined : (c : List Float) (xs : List Crossing) → Some xs ≡ all_five (crossings c) →
+    table 5 (roots_in c (crossed 5 xs)) ≡ map narrow (roots_of c)
+unfolding roots_in
+scan_refined c xs h =
+    let r = noted_all (crossings c) xs h in
+    same_table 5 (roots_in c (crossed 5 xs)) (roots_in c (crossings c)) (λ k l. rw (r.low k l, r.high k l))
+    ∙ scan_finds c r.enough

@@ -4,3 +4,4 @@ pub mod Passing
 pub mod Form
 pub mod Loaded
 pub mod Image
+pub mod Parts

@@ -1,51 +1,32 @@
 // A file of code rows, loaded into a buffer of the caller (request E5). The library opens no file: it is lent the bytes.
 #![tactic(auto)]
 
-ghost use Rattle.std.specs.Prelude.{◌≡◌, ◌+◌, ◌≤◌, ◌<◌, pos, length};
+ghost use Rattle.std.specs.Prelude.{◌≡◌, ◌+◌, ◌≤◌, pos, length, IfOk};
+ghost use Rattle.float.specs.Answered.{status_of};
 ghost use Rattle.spec_tables.specs.Codebook.{neg};
 ghost use Rattle.spec_tables.specs.Bounds.{inside, row_bound, rows_pass};
-ghost use Rattle.row_file.specs.RowFile.{half, word, signed, rows_from, wrong_file, load_status, load};
+ghost use Rattle.row_file.specs.RowFile.{word, rows_of, wrong_file, load_status, load};
+ghost use Rattle.row_file.specs.inner.Numbers.{number_of, numbers_of};
 
-fn wide(x: u8) -> u32
-    ensures { (result ≡ x) × (result < 256) }
-{
-    x as u32
-}
+use float::status::Refusal;
 
-// 16 bits, and 32, low byte first.
-fn half_at(file: &[u8], at: usize) -> u32
-    requires { at + 2 ≤ length file.now }
-    ensures { (result ≡ half file.now at) × (result < 65536) }
-{
-    wide(file[at]) + 256 * wide(file[at + 1])
-}
-
+// 32 bits, low byte first.
 fn word_at(file: &[u8], at: usize) -> u32
     requires { at + 4 ≤ length file.now }
     ensures { result ≡ word file.now at }
 {
-    half_at(file, at) + 65536 * half_at(file, at + 2)
+    u32::from_le_bytes([file[at], file[at + 1], file[at + 2], file[at + 3]])
 }
 
-// 16 bits as a number with a sign.
-fn with_sign(w: u32) -> i16
-    requires { w < 65536 }
-    ensures { result ≡ signed w }
+// 16 bits, low byte first, as a number with a sign.
+fn number(bytes: [u8; 2]) -> i16
+    ensures { result ≡ number_of bytes }
 {
-    if w < 32768 {
-        return w as i16;
-    }
-    (w as i32 - 65536) as i16
+    i16::from_le_bytes(bytes)
 }
 
-fn number_at(file: &[u8], at: usize) -> i16
-    requires { at + 2 ≤ length file.now }
-    ensures { result ≡ signed (half file.now at) }
-{
-    let w = half_at(file, at);
-    with_sign(w)
-}
-
+// Two tests side by side, and all numbers in turn with no early end below: so several are tested at once, for speed. docs/BENCH.md has
+// the figures.
 fn passes(n: i16) -> bool
     ensures { result ≡ inside (neg row_bound) (pos row_bound) n }
 {
@@ -53,14 +34,12 @@ fn passes(n: i16) -> bool
 }
 
 // Every number lies within -8,192..8,192. All are looked at: files are right nearly always.
-fn all_pass(file: &[u8], from: usize) -> bool
-    requires { from + 5120 ≤ length file.now }
-    ensures { result ≡ rows_pass (rows_from file.now from) }
+fn all_pass(numbers: &[[u8; 2]]) -> bool
+    ensures { result ≡ rows_pass (numbers_of numbers.now) }
 {
     let mut passed = true;
-    for i in 0..2560 {
-        let one = passes(number_at(file, from + 2 * i));
-        passed = passed & one;
+    for bytes in numbers {
+        passed &= passes(number(*bytes));
     }
     passed
 }
@@ -70,51 +49,56 @@ fn wrong_file(file: &[u8]) -> bool
     ensures { result ≡ wrong_file file.now }
 {
     let len = file.len();
-    if 32768 < len {
-        return true;
-    }
-    if len < 5128 {
-        return true;
-    }
-    if word_at(file, len - 8) != 5128 {
-        return true;
-    }
-    word_at(file, len - 4) != 2560
+    32768 < len || len < 5128 || word_at(file, len - 8) != 5128 || word_at(file, len - 4) != 2560
 }
 
-// The first refusal due: 1 for the buffer's places, 10 for the file's form, 11 for a number.
-fn check_file(file: &[u8], room: usize) -> u32
-    ensures { result ≡ load_status room file.now }
+// The two bytes of each number, behind the notes and before the trailer.
+#[tactic(auto, using(crate::proofs::Parts::numbers_read))]
+fn numbers_in(file: &[u8]) -> &[[u8; 2]]
+    requires { 5128 ≤ length file.now }
+    ensures many { length result.now ≡ 2560 }
+    ensures numbers { numbers_of result.now ≡ rows_of file.now }
+{
+    let from = file.len() - 5128;
+    let (numbers, _) = file[from..from + 5120].as_chunks::<2>();
+    numbers
+}
+
+// The file's numbers, or the first refusal due: 1 for the buffer's places, 10 for the file's form, 11 for a number.
+#[tactic(auto, using(float::proofs::Refusal::checks), unfolding(crate::specs::RowFile::load_status))]
+fn check_file(file: &[u8], room: usize) -> Result<&[[u8; 2]], Refusal>
+    ensures status { status_of result ≡ load_status room file.now }
+    ensures numbers { IfOk result (λ n. (length n.now ≡ room) × (numbers_of n.now ≡ rows_of file.now)) }
 {
     if room != 2560 {
-        return 1; // before the file is looked at
+        return Err(Refusal::Length); // before the file is looked at
     }
     if wrong_file(file) {
-        return 10;
+        return Err(Refusal::FileForm);
     }
-    if !all_pass(file, file.len() - 5128) {
-        return 11;
+    let numbers = numbers_in(file);
+    if !all_pass(numbers) {
+        return Err(Refusal::FileNumber);
     }
-    0
+    Ok(numbers)
 }
 
-fn store(file: &[u8], from: usize, rows: &mut [i16])
-    requires { (from + 5120 ≤ length file.now) × (length rows.old ≡ 2560) }
-    ensures { rows.new ≡ rows_from file.now from }
+// By an index: of what a zip over `iter_mut` wrote a proof knows no more than the length.
+fn store(numbers: &[[u8; 2]], rows: &mut [i16])
+    requires { length rows.old ≡ length numbers.now }
+    ensures { rows.new ≡ numbers_of numbers.now }
 {
-    for i in 0..2560 {
-        rows[i] = number_at(file, from + 2 * i);
+    for (i, row) in rows.iter_mut().enumerate() {
+        *row = number(numbers[i]);
     }
 }
 
 // Loads the rows of a file. Nothing is stored before every number has passed.
-pub fn load_rows(file: &[u8], rows: &mut [i16]) -> u32
-    ensures status { result ≡ (load file.now rows.old).status }
+pub fn load_rows(file: &[u8], rows: &mut [i16]) -> Result<(), Refusal>
+    ensures status { status_of result ≡ (load file.now rows.old).status }
     ensures rows { rows.new ≡ (load file.now rows.old).rows }
 {
-    let status = check_file(file, rows.len());
-    if status == 0 {
-        store(file, file.len() - 5128, rows);
-    }
-    status
+    let numbers = check_file(file, rows.len())?;
+    store(numbers, rows);
+    Ok(())
 }

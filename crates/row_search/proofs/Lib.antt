@@ -1,3 +1,3 @@
-mod Four
+pub mod Four
 pub mod Searching
 pub mod Least

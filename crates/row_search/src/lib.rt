@@ -2,20 +2,63 @@
 // A row is named by its first number's place; the rows of a search stand one after the other.
 #![tactic(auto)]
 
-ghost use Rattle.std.specs.Prelude.{◌≡◌, ◌+◌, ◌*◌, ◌≤◌, length};
+ghost use Rattle.std.specs.Prelude.{◌≡◌, ℕ, ◌+◌, ◌*◌, ◌≤◌, ◌<◌, length, false, Float};
+ghost use Rattle.std.specs.Float.{inf};
 ghost use Rattle.spec_tables.specs.Rows.{row_from};
 ghost use Rattle.row_search.specs.Error.{row_error};
 ghost use Rattle.row_search.specs.Search.{better, best, errors};
-ghost use Rattle.row_search.specs.inner.Four.{pair, four_rows};
+ghost use Rattle.row_search.specs.inner.Four.{pair, better_four};
 
 // The smallest error so far and its index.
-#[derive(Drop)]
+#[derive(Clone, Copy)]
 struct Smallest {
     error: f32,
     index: usize,
 }
 
-// The weighted squared error of a row of any width.
+impl Smallest {
+    // Before the first error.
+    fn none() -> Smallest
+        ensures { pair result ≡ (inf false, 0) }
+    {
+        Smallest {
+            error: f32::INFINITY,
+            index: 0,
+        }
+    }
+
+    // After one more error.
+    #[tactic(auto, unfolding(crate::specs::Search::better))]
+    fn offer(self, error: f32, index: usize) -> Smallest
+        ensures { pair result ≡ better error index (pair self) }
+    {
+        if error < self.error {
+            Smallest { error, index }
+        } else {
+            self
+        }
+    }
+
+    // After four more, from index `first` on. Seldom is one of them below the smallest so far: one test passes over the four.
+    #[tactic(auto, using(crate::proofs::Four::none_below), unfolding(crate::specs::inner::Four::better_four))]
+    fn offer_four(self, errors: [f32; 4], first: usize) -> Smallest
+        requires { first + 3 ≤ usize.MAX }
+        ensures { pair result ≡ better_four errors first (pair self) }
+    {
+        let [a, b, c, d] = errors;
+        let least = self.error;
+        if (a < least) | (b < least) | (c < least) | (d < least) {
+            self.offer(a, first)
+                .offer(b, first + 1)
+                .offer(c, first + 2)
+                .offer(d, first + 3)
+        } else {
+            self
+        }
+    }
+}
+
+// The weighted squared error of a row of any width. By an index, since three lists are read side by side.
 pub fn row_error(
     rows: &[i16],
     place: usize,
@@ -29,83 +72,32 @@ pub fn row_error(
 {
     let mut error = 0.0f32;
     for j in 0..width {
-        let d = target[start + j] - rows[place + j] as f32;
+        let d = target[start + j] - f32::from(rows[place + j]);
         error += weights[start + j] * d * d;
     }
     error
 }
 
-// An error and its index, after the smallest so far.
-fn offer(best: Smallest, error: f32, index: usize) -> Smallest
-    ensures { pair result ≡ better error index (pair best) }
+// Of so many errors the place of the smallest, the first of equals. Four are taken side by side: where their rows' width is known they are one
+// vector (docs/BENCH.md).
+fn best_of<F: Fn(usize) -> f32>(count: usize, error: F) -> usize
+    requires { (i : ℕ) → i < count → F.pre error i }
+    ensures { (e : ℕ → Float) → ((i : ℕ) (r : Float) → i < count → F.post error i r → r ≡ e i) → result ≡ best e count }
 {
-    if error < best.error {
-        return Smallest { error, index };
+    let mut best = Smallest::none();
+    let fours = count / 4;
+    for n in 0..fours {
+        let i = 4 * n;
+        best = best.offer_four([error(i), error(i + 1), error(i + 2), error(i + 3)], i);
     }
-    best
+    for i in 4 * fours..count {
+        best = best.offer(error(i), i);
+    }
+    best.index
 }
 
-// Four errors, from index `i` on. Seldom is one of them below the smallest so far: one test passes over the four.
-fn offer_four(best: Smallest, a: f32, b: f32, c: f32, d: f32, i: usize) -> Smallest
-    requires { i + 3 ≤ 18446744073709551615 }
-    ensures { pair result ≡ better d (i + 3) (better c (i + 2) (better b (i + 1) (better a i (pair best)))) }
-{
-    let least = best.error;
-    if (a < least) | (b < least) | (c < least) | (d < least) {
-        let one = offer(best, a, i);
-        let two = offer(one, b, i + 1);
-        let three = offer(two, c, i + 2);
-        return offer(three, d, i + 3);
-    }
-    best
-}
-
-// Four rows one after the other, from place `place` and index `i` on; each error keeps its own order.
-// Widths 3 and 4 stand as numbers, so that the rows are unrolled and the four errors are one vector.
-fn four_rows(
-    best: Smallest,
-    rows: &[i16],
-    place: usize,
-    width: usize,
-    target: &[f32],
-    weights: &[f32],
-    start: usize,
-    i: usize,
-) -> Smallest
-    requires { (place + 4 * width ≤ length rows.now) × (start + width ≤ length target.now) × (start + width ≤ length weights.now) × (i + 3 ≤ 18446744073709551615) }
-    ensures { pair result ≡ four_rows (λ p. row_error target.now weights.now start (row_from rows.now width p)) width place i (pair best) }
-{
-    if width == 3 {
-        let second = place + 3;
-        let third = second + 3;
-        let fourth = third + 3;
-        let a = row_error(rows, place, 3, target, weights, start);
-        let b = row_error(rows, second, 3, target, weights, start);
-        let c = row_error(rows, third, 3, target, weights, start);
-        let d = row_error(rows, fourth, 3, target, weights, start);
-        return offer_four(best, a, b, c, d, i);
-    }
-    if width == 4 {
-        let second = place + 4;
-        let third = second + 4;
-        let fourth = third + 4;
-        let a = row_error(rows, place, 4, target, weights, start);
-        let b = row_error(rows, second, 4, target, weights, start);
-        let c = row_error(rows, third, 4, target, weights, start);
-        let d = row_error(rows, fourth, 4, target, weights, start);
-        return offer_four(best, a, b, c, d, i);
-    }
-    let second = place + width;
-    let third = second + width;
-    let fourth = third + width;
-    let a = row_error(rows, place, width, target, weights, start);
-    let b = row_error(rows, second, width, target, weights, start);
-    let c = row_error(rows, third, width, target, weights, start);
-    let d = row_error(rows, fourth, width, target, weights, start);
-    offer_four(best, a, b, c, d, i)
-}
-
-// The row of smallest error among `count` rows of `width` numbers from place `first` on, the first of equals.
+// The row of smallest error among `count` rows of `width` numbers from place `first` on, the first of equals. The bands' widths stand as
+// numbers, so that their rows are unrolled.
 pub fn best_row(
     rows: &[i16],
     first: usize,
@@ -118,24 +110,18 @@ pub fn best_row(
     requires { (first + count * width ≤ length rows.now) × (start + width ≤ length target.now) × (start + width ≤ length weights.now) }
     ensures { result ≡ best (errors target.now weights.now start rows.now width first) count }
 {
-    let mut best = Smallest {
-        error: 1.0f32 / 0.0,
-        index: 0,
-    };
-    let mut place = first;
-    let mut i = 0;
-    while count - i >= 4 {
-        let more = four_rows(best, rows, place, width, target, weights, start, i);
-        best = more;
-        place += 4 * width;
-        i += 4;
+    match width {
+        3 => best_of(
+            count,
+            |i| row_error(rows, first + i * 3, 3, target, weights, start),
+        ),
+        4 => best_of(
+            count,
+            |i| row_error(rows, first + i * 4, 4, target, weights, start),
+        ),
+        _ => best_of(
+            count,
+            |i| row_error(rows, first + i * width, width, target, weights, start),
+        ),
     }
-    while i < count {
-        let error = row_error(rows, place, width, target, weights, start);
-        let more = offer(best, error, i);
-        best = more;
-        place += width;
-        i += 1;
-    }
-    best.index
 }

@@ -1,3 +1,3 @@
-pub mod Numbers
+pub mod Constants
 pub mod Refusals
 pub mod Choice

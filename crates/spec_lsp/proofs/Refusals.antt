@@ -16,9 +16,8 @@ use Rattle.float.specs.Single.{single}
 use Rattle.float.proofs.Refusal.{clear, or_clear, not_refused}
 use Rattle.lsp_index.specs.Index.{split}
 use Rattle.lsp_index.proofs.Bytes.{refused_above}
-use Rattle.spec_lsp.specs.declared.quantise.Quantised.{Quantised}
 use Rattle.spec_lsp.specs.Decode.{decoded, decode_lsp_freq}
-use Rattle.spec_lsp.specs.Quantise.{refused_index, quantised_as, quantise_refusals, quantise_by}
+use Rattle.spec_lsp.specs.Quantise.{Quantised, refused_index, quantised_as, quantise_refusals, quantise_by}
 
 module _ (rows : List ℤ) (index : ℕ) (prev : List Float) where
   pub decode_done : index ≤ 16777215 → all finite prev ≡ true → any_exceeds (single 65536 1) prev ≡ false →

@@ -2,8 +2,7 @@
 -- `rows` is any list of code rows, and the resting set dc stands in spec_tables.
 -- §2.6, steps 1 and 2 (eq. 3.3, 4.4); document 01, B31 and B33; document 02, E4.2 and E4.6. Assumes nothing.
 use Rattle.std.specs.Prelude.{ℕ, Bool, List, [], ◌∷◌, ◌++◌, ℤ, get_or, Float}
-use Rattle.float.specs.declared.Lines.{Lines}
-use Rattle.float.specs.Lines.{refused_lines}
+use Rattle.float.specs.Lines.{Lines, refused_lines}
 use Rattle.float.specs.Table.{table}
 use Rattle.float.specs.Refusal.{first, answer}
 use Rattle.float.specs.Finite.{not_finite, any_exceeds}

@@ -1,8 +1,9 @@
 -- The quantiser of a line set: in each band the row of smallest weighted squared error against what the previous set does not foretell.
 -- `rows` is any list of code rows. The set is the decoder's by definition.
 -- §2.5, steps 2 to 5 (eq. 3.3, 3.4, 4.1, 4.3, 4.5 and 5); document 01, B23 to B30, which cites §2.6. Assumes nothing.
-use Rattle.std.specs.Prelude.{ℕ, zero, suc, ◌+◌, Bool, ◌||◌, cond, List, [], ◌∷◌, map, eqb, ℤ, Float}
+use Rattle.std.specs.Prelude.{ℕ, zero, suc, ◌+◌, Bool, ◌||◌, cond, List, [], ◌∷◌, map, eqb, ℤ, Float, Result}
 use Rattle.std.specs.Float.Ieee.{lt}
+use Rattle.float.specs.Answered.{answered}
 use Rattle.float.specs.Table.{table}
 use Rattle.float.specs.Refusal.{first, answer}
 use Rattle.float.specs.Finite.{not_finite, any_exceeds}
@@ -16,7 +17,14 @@ use Rattle.row_search.specs.Error.{number, row_error}
 use Rattle.row_search.specs.Search.{best}
 use Rattle.lsp_index.specs.Index.{combine}
 use Rattle.spec_lsp.specs.Decode.{predicted, decoded}
-use Rattle.spec_lsp.specs.declared.quantise.Quantised.{Quantised}
+use Rattle.float.specs.declared.status.Refusal.{Refusal}
+use Rattle.spec_lsp.specs.declared.quantise.Quantised.{Quantised as QuantisedMade}
+
+-- the index and the decoder's set beside the status
+pub record Quantised : Type 0 where
+  pub status : ℕ
+  pub index : ℕ
+  pub set : List Float
 
 -- the smaller and the larger of two
 unfoldable pub smaller : Float → Float → Float
@@ -71,3 +79,10 @@ quantise_by rows choice p prev = answer (first (quantise_refusals p prev)) refus
 
 unfoldable pub quantise_lsp_freq : List ℤ → List Float → List Float → Quantised
 quantise_lsp_freq rows p prev = quantise_by rows (index_of rows) p prev
+
+-- the answer of the code
+abbrev pub done_index : QuantisedMade → Quantised
+done_index q = record { status = 0; index = q.index; set = q.set }
+
+abbrev pub as_quantised : Result QuantisedMade Refusal → Quantised
+as_quantised = answered refused_index done_index

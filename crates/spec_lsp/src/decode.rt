@@ -1,13 +1,17 @@
 // The decoder of a line set (§2.6, steps 1 and 2): the previous set predicts, and the rows that the index names are added.
-ghost use Rattle.std.specs.Prelude.{◌≡◌, ◌++◌, length, take};
+ghost use Rattle.std.specs.Prelude.{◌≡◌, ◌++◌, take};
 ghost use Rattle.spec_tables.specs.Codebook.{lsp_rows};
+ghost use Rattle.float.specs.Answered.{status_of};
+ghost use Rattle.float.specs.Lines.{as_lines};
 ghost use Rattle.float.specs.Refusal.{first};
 ghost use Rattle.spec_lsp.specs.Decode.{predicted, rebuilt, row_numbers, decoded, decode_refusals, decode_lsp_freq};
 
-use float::Lines;
+use float::status::Refusal;
 use spec_tables::LspBand;
+use std::array;
 
 // What the previous set foretells of a frequency, its resting value taken off.
+#[tactic(auto, using(crate::proofs::Constants::three_eighths), unfolding(crate::specs::Decode::predicted))]
 pub fn predict(prev: f32, dc: f32) -> f32
     ensures { result ≡ predicted prev dc }
 {
@@ -15,13 +19,14 @@ pub fn predict(prev: f32, dc: f32) -> f32
 }
 
 // A frequency from its previous value, its resting value and its row's number.
+#[tactic(auto, unfolding(crate::specs::Decode::rebuilt))]
 fn rebuild(prev: f32, dc: f32, number: f32) -> f32
     ensures { result ≡ rebuilt prev dc number }
 {
     predict(prev, dc) + dc + number
 }
 
-// Rows of three, three and four numbers, one after the other.
+// Rows of three, three and four numbers, one after the other: each number by its place, where a loop would want a buffer and three ranges.
 fn joined(a: [i16; 4], b: [i16; 4], c: [i16; 4]) -> [i16; 10]
     ensures { result ≡ take 3 a ++ take 3 b ++ take 4 c }
 {
@@ -29,65 +34,47 @@ fn joined(a: [i16; 4], b: [i16; 4], c: [i16; 4]) -> [i16; 10]
 }
 
 // The ten numbers of the three rows that an index names.
-fn row_numbers(rows: &[i16], index: u32) -> [i16; 10]
-    requires { length rows.now ≡ 2560 }
+#[tactic(auto, unfolding(crate::specs::Decode::row_numbers))]
+fn row_numbers(rows: &[i16; 2560], index: u32) -> [i16; 10]
     ensures { result ≡ row_numbers rows.now index }
 {
-    let bands = LspBand::in_order();
-    let places = lsp_index::index_bytes(index);
-    let a = spec_tables::lsp_codebook_entry(rows, bands[0], places[0]);
-    let b = spec_tables::lsp_codebook_entry(rows, bands[1], places[1]);
-    let c = spec_tables::lsp_codebook_entry(rows, bands[2], places[2]);
+    let [first, second, third] = lsp_index::index_bytes(index);
+    let a = spec_tables::lsp_codebook_entry(rows, LspBand::Band0, first);
+    let b = spec_tables::lsp_codebook_entry(rows, LspBand::Band1, second);
+    let c = spec_tables::lsp_codebook_entry(rows, LspBand::Band2, third);
     joined(a, b, c)
 }
 
 // The set that an index makes of the previous one.
-pub fn decode_set(rows: &[i16], index: u32, prev: [f32; 10]) -> [f32; 10]
-    requires { length rows.now ≡ 2560 }
+pub fn decode_set(rows: &[i16; 2560], index: u32, prev: [f32; 10]) -> [f32; 10]
     ensures { result ≡ decoded rows.now index prev }
 {
     let dc = spec_tables::lsp_dc_predicted_freq();
     let numbers = row_numbers(rows, index);
-    let mut set = [0.0f32; 10];
-    for i in 0..10 {
-        set[i] = rebuild(prev[i], dc[i] as f32, numbers[i] as f32);
-    }
-    set
+    array::from_fn(|i| rebuild(prev[i], f32::from(dc[i]), f32::from(numbers[i])))
 }
 
 // The first refusal due: what the index is refused with; then 5 and 6 on the previous set.
-fn check_index_and_set(index: u32, prev: [f32; 10]) -> u32
-    ensures { result ≡ first (decode_refusals index prev) }
+#[tactic(auto, using(crate::proofs::Constants::most, lsp_index::proofs::Bytes::split_status))]
+fn check_index_and_set(index: u32, prev: [f32; 10]) -> Result<(), Refusal>
+    ensures { status_of result ≡ first (decode_refusals index prev) }
 {
-    let split = lsp_index::split_lsp_index(index);
-    let status = split.status;
-    if status != 0 {
-        return status; // before the previous set is looked at
-    }
+    lsp_index::split_lsp_index(index)?; // before the previous set is looked at
     float::check_bounded(&prev, 65536.0)
 }
 
 // The decoder over rows that the caller lends.
-pub fn decode_in(rows: &[i16], index: u32, prev: [f32; 10]) -> Lines
-    requires { length rows.now ≡ 2560 }
-    ensures { result ≡ decode_lsp_freq rows.now index prev }
+#[tactic(auto, using(float::proofs::Refusal::exits), unfolding(crate::specs::Decode::decode_lsp_freq))]
+pub fn decode_in(rows: &[i16; 2560], index: u32, prev: [f32; 10]) -> Result<[f32; 10], Refusal>
+    ensures { as_lines result ≡ decode_lsp_freq rows.now index prev }
 {
-    let status = check_index_and_set(index, prev);
-    if status != 0 {
-        return float::refused_lines(status);
-    }
-    let lines = decode_set(rows, index, prev);
-    Lines { status: 0, lines }
+    check_index_and_set(index, prev)?;
+    Ok(decode_set(rows, index, prev))
 }
 
-pub fn decode_lsp_freq(index: u32, prev: [f32; 10]) -> Lines
-    ensures { result ≡ decode_lsp_freq lsp_rows index prev }
+// The same over the built-in rows.
+pub fn decode_lsp_freq(index: u32, prev: [f32; 10]) -> Result<[f32; 10], Refusal>
+    ensures { as_lines result ≡ decode_lsp_freq lsp_rows index prev }
 {
-    let status = check_index_and_set(index, prev);
-    if status != 0 {
-        return float::refused_lines(status); // before the rows are copied
-    }
-    let t = spec_tables::lsp_rows();
-    let lines = decode_set(&t, index, prev);
-    Lines { status: 0, lines }
+    decode_in(spec_tables::lsp_rows(), index, prev)
 }

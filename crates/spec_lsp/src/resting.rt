@@ -6,10 +6,5 @@ ghost use Rattle.spec_lsp.specs.Resting.{resting};
 pub fn resting_set() -> [f32; 10]
     ensures { result ≡ resting }
 {
-    let dc = spec_tables::lsp_dc_predicted_freq();
-    let mut set = [0.0f32; 10];
-    for i in 0..10 {
-        set[i] = dc[i] as f32;
-    }
-    set
+    spec_tables::lsp_dc_predicted_freq().map(f32::from)
 }

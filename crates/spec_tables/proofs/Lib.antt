@@ -1,6 +1,5 @@
 pub mod Bands
 pub mod Bounds
 pub mod BuiltIn
-pub mod Copy
 pub mod Rows
 pub mod Lines

@@ -1,6 +1,6 @@
 // The code rows of the line quantiser (§2.6) as one table of 2,560 numbers: places 0..768 are the Rust's LSP_CODEBOOK_BAND0_Q13 (256 rows of three),
 // 768..1536 its LSP_CODEBOOK_BAND1_Q13 (256 rows of three) and 1536..2560 its LSP_CODEBOOK_BAND2_Q13 (256 rows of four).
-pub const LSP_CODEBOOK: [i16; 2560] = [
+pub static LSP_CODEBOOK: [i16; 2560] = [
     0, 0, 0, -270, -1372, -1032, -541, -1650, -1382, -723, -2011, -2213, -941, -1122, -1942, -780,
     -1145, -2454, -884, -1309, -1373, -1051, -1523, -1766, -1083, -1622, -2300, -777, -1377, -2147,
     -935, -1467, -2763, -802, -1327, -3471, -935, -1959, -3999, -240, -89, 222, -661, -257, -160,

@@ -1,5 +1,5 @@
-// The Recommendation's tables that the analysis reads, and the three bands of its line quantiser. Consts have the Rust's names.
-// A table is read by binding it once, as `let t = lsp_rows();`, and lending `&t`: a const that is named in a loop is copied at each use.
+// The Recommendation's tables that the analysis reads, and the three bands of its line quantiser. They have the Rust's names.
+// The two long ones are statics, which have an address: they are lent, and nobody copies them.
 #![tactic(auto)]
 
 ghost use Rattle.std.specs.Prelude.{◌≡◌, ◌+◌, ◌*◌, ◌≤◌, length, take};
@@ -32,16 +32,17 @@ pub const PERCEPTUAL_ZERO_Q15: [i16; 10] = [
 
 pub const PERCEPTUAL_POLE_Q15: [i16; 10] = [16384, 8192, 4096, 2048, 1024, 512, 256, 128, 64, 32];
 
-pub fn lsp_rows() -> [i16; 2560]
-    ensures { result ≡ lsp_rows }
+// Each table as a function, with what it holds as its contract: a const has no clause.
+pub fn lsp_rows() -> &'static [i16; 2560]
+    ensures { result.now ≡ lsp_rows }
 {
-    codebook::LSP_CODEBOOK
+    &codebook::LSP_CODEBOOK
 }
 
-pub fn lpc_hamming_window() -> [i16; 180]
-    ensures { result ≡ hamming_window }
+pub fn lpc_hamming_window() -> &'static [i16; 180]
+    ensures { result.now ≡ hamming_window }
 {
-    window::LPC_HAMMING_WINDOW_Q15
+    &window::LPC_HAMMING_WINDOW_Q15
 }
 
 pub fn lsp_dc_predicted_freq() -> [i16; 10]
@@ -69,7 +70,7 @@ pub fn perceptual_pole() -> [i16; 10]
 }
 
 // A band of the line quantiser.
-#[derive(Clone, Copy)]
+#[derive(Clone, Copy, Debug, PartialEq, Eq)]
 pub enum LspBand {
     Band0,
     Band1,
@@ -113,6 +114,7 @@ impl LspBand {
     }
 
     // Where the band's rows begin among the 2,560 numbers: every band has 256 rows, as wide as the band.
+    #[tactic(auto, using(crate::proofs::Bands::first_fits))]
     pub fn first_row(self) -> usize
         ensures { result ≡ first_row self }
     {
@@ -121,34 +123,34 @@ impl LspBand {
     }
 
     // The place of row `index` among the 2,560 numbers.
+    #[tactic(auto, using(crate::proofs::Bands::index_fits, crate::proofs::Bands::place_fits))]
     pub fn row_place(self, index: u8) -> usize
         ensures { result ≡ first_row self + index * (place_of self).length }
     {
         let first = self.first_row();
         let place = self.start_and_length();
-        first + (index as usize) * place.length
+        first + usize::from(index) * place.length
     }
 }
 
-// The `width` numbers from place `at` on, zeros after them.
-fn copied(rows: &[i16], at: usize, width: usize) -> [i16; 4]
-    requires { (at + width ≤ length rows.now) × (width ≤ 4) }
-    ensures { result ≡ padded (row_from rows.now width at) }
+// A row as four numbers, zeros last.
+#[tactic(auto, unfolding(crate::specs::Rows::padded))]
+fn copied(row: &[i16]) -> [i16; 4]
+    requires { length row.now ≤ 4 }
+    ensures { result ≡ padded row.now }
 {
     let mut out = [0i16; 4];
-    for j in 0..width {
-        out[j] = rows[at + j];
-    }
+    out[..row.len()].copy_from_slice(row);
     out
 }
 
 // Row `index` of a band copied out, zeros after it, of rows that the caller lends: as many of the four as the band is wide are the row.
-pub fn lsp_codebook_entry(rows: &[i16], band: LspBand, index: u8) -> [i16; 4]
-    requires { length rows.now ≡ 2560 }
+#[tactic(auto, using(crate::proofs::Rows::unpadded, crate::proofs::Rows::row_length), unfolding(crate::specs::Rows::row_from))]
+pub fn lsp_codebook_entry(rows: &[i16; 2560], band: LspBand, index: u8) -> [i16; 4]
     ensures four { result ≡ padded (row rows.now band index) }
     ensures row { take (place_of band).length result ≡ row rows.now band index }
 {
     let place = band.start_and_length();
     let at = band.row_place(index);
-    copied(rows, at, place.length)
+    copied(&rows[at..at + place.length])
 }

@@ -3,10 +3,8 @@
 use Rattle.std.specs.Prelude.{ℕ, List, ◌++◌, Float}
 use Rattle.float.specs.Refusal.{answer}
 use Rattle.lsp_filter.specs.Interpolate.{interpolate_lsp}
-use Rattle.lsp_filter.specs.Polynomial.{refused_lpc, lsp_to_lpc}
-use Rattle.lsp_filter.specs.declared.LpcCoefficients.{LpcCoefficients}
-use Rattle.frame_parts.specs.declared.Filters.{Filters}
-use Rattle.frame_parts.specs.Four.{four}
+use Rattle.lsp_filter.specs.Polynomial.{LpcCoefficients, refused_lpc, lsp_to_lpc}
+use Rattle.frame_parts.specs.Four.{Filters, four}
 
 -- the filter of subframe s
 unfoldable pub filter_of : List Float → List Float → ℕ → LpcCoefficients

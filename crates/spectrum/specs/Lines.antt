@@ -4,14 +4,11 @@
 -- Document 02, E2.5 to E2.7 and E2.13; §2.5 and §2.6. Assumes nothing.
 use Rattle.std.specs.Prelude.{cond, List, eqb, ℤ, Float}
 use Rattle.float.specs.Refusal.{answer}
-use Rattle.float.specs.Lines.{refused_lines}
-use Rattle.float.specs.declared.Lines.{Lines}
+use Rattle.float.specs.Lines.{Lines, refused_lines}
 use Rattle.convert.specs.Convert.{cosines_to_freq, freq_to_cosines}
 use Rattle.lsp.specs.Pairs.{lpc_to_lsp}
-use Rattle.spec_lsp.specs.Quantise.{refused_index, quantise_lsp_freq}
-use Rattle.spec_lsp.specs.declared.quantise.Quantised.{Quantised}
-use Rattle.stability.specs.Stability.{refusal, enforced}
-use Rattle.stability.specs.declared.Stabilised.{Stabilised}
+use Rattle.spec_lsp.specs.Quantise.{Quantised, refused_index, quantise_lsp_freq}
+use Rattle.stability.specs.Stability.{Stabilised, refusal, enforced}
 
 -- what is quantised of a filter a, after the decoded set
 unfoldable pub given : List Float → List Float → Lines

@@ -16,8 +16,7 @@ use Rattle.float.proofs.Dyadic.{dyadic_exact}
 use Rattle.float.proofs.Range.{AtMost, at_most_value, at_most_add, at_most_sub, at_most_mul}
 use Rattle.float.proofs.Turns.{turns}
 use Rattle.stability.specs.Spacing.{half}
-use Rattle.stability.specs.Passes.{close, apart, spread, pass, next, settled}
-use Rattle.stability.specs.declared.Settled.{Settled}
+use Rattle.stability.specs.Passes.{Settled, close, apart, spread, pass, next, settled}
 use Rattle.stability.proofs.Angles.{Sixteenths, single-holds, wider, Angles, angles_wider, replaced}
 
 -- ---- one pair

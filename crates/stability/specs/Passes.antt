@@ -7,7 +7,11 @@ use Rattle.float.specs.Loop.{over}
 use Rattle.float.specs.Single.{◌⊕◌, ◌⊖◌, ◌⊗◌, single}
 use Rattle.float.specs.Vector.{at}
 use Rattle.stability.specs.Spacing.{half, least}
-use Rattle.stability.specs.declared.Settled.{Settled}
+
+-- ten angles, and whether the last pass over them met no pair too close
+pub record Settled : Type 0 where
+  pub angles : List Float
+  pub converged : Bool
 
 -- the angles j and j + 1 are too close
 unfoldable pub close : Float → List Float → ℕ → Bool

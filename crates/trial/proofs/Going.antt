@@ -1,22 +1,24 @@
 -- The loop that goes through the lines of a pattern: what holds after k of them, and what each way out leaves. Assumes nothing.
 use mathlib.Core.Path.{◌≡◌, refl, sym, ap, ◌∙◌, subst}
-use mathlib.Core.Bool.{Bool, true, false, not, ◌&&◌, cond}
+use mathlib.Core.Bool.{Bool, true, false, ◌&&◌, cond}
 use mathlib.Core.List.{List, [], ◌∷◌, ◌++◌, append_assoc, append-nil}
-use Prim.Native.Nat.{ℕ, suc, ◌+◌, ◌-◌, ◌*◌, ◌^◌, ◌≤◌, ◌<◌, zero-le}
+use Prim.Native.Nat.{ℕ, suc, ◌+◌, ◌*◌, ◌^◌, ◌≤◌, ◌<◌, zero-le}
 use native.Mathlib.Nat.{le_trans, le_of_eq, lt_of_le_of_lt}
-use native.Mathlib.Numerals.{add-one}
 use native.Mathlib.Omega.{arith}
 use lib.Dec.{ltb, lit<, lit≤}
 use lib.ListN.{length, get_or, take, drop, length-append, drop_of_length-le}
 use lib.Seq.{drop-cons, drop-drop, length-take-le}
-use borrow.Author.Tests.{lt-ltb, le-ltb, not-true, not-false}
-use Rattle.trial_text.specs.declared.Entry.{Entry}
-use Rattle.trial_text.specs.declared.Read.{Read}
-use Rattle.trial_text.specs.Pattern.{lines, entry_of}
+use borrow.Author.Tests.{lt-ltb, le-ltb}
+use Rattle.trial_text.specs.Pattern.{Entry, lines, entry_of}
 use Rattle.trial_print.specs.Printed.{decimal, ended, space, refused, reported, refusal}
 use Rattle.trial_text.specs.Pattern.{line_feed}
-use Rattle.trial_text.specs.inner.First.{first_line, after_line, read_at}
-use Rattle.trial_print.specs.inner.Put.{Put}
+use Rattle.trial_text.specs.inner.First.{as_read, Read, first_line, after_line, read_at}
+use Rattle.trial_print.specs.declared.Printed.{Printed}
+use Rattle.trial_print.specs.inner.Put.{HasRoom, Puts}
+use Rattle.std.proofs.Common.{Some, None}
+use Rattle.trial_text.specs.declared.Entry.{Entry as Made}
+use Rattle.trial_text.specs.declared.Read.{Read as MadeRead}
+use Rattle.trial_text.specs.Answers.{taken, as_entry}
 use Rattle.trial_text.proofs.First.{lines_cut, after_drop}
 use Rattle.trial_print.proofs.Decimal.{length_spelt}
 use Rattle.trial_text.proofs.Short.{entry_short}
@@ -75,45 +77,60 @@ reported_short k n q h i j =
     sum a b c d e f g h i j = omega arith
 
 -- ---- the loop
-pub record Going (text : List ℕ) (s : State) (at end k : ℕ) (out : List ℕ) : Type 0 where
+pub record Going (before : Printed) (text : List ℕ) (s : State) (at k : ℕ) (p : Printed) : Type 0 where
   pub count : k ≤ 10000
-  pub short : end ≤ 20 * k
+  pub short : p.end ≤ 20 * k
   pub row : s.arrivals ≤ k
-  pub long : length out ≡ 200064
+  pub start : before.end ≡ 0
+  pub room : length before.out.now ≡ 200064
+  pub long : length p.out.now ≡ length before.out.now
+  pub same : p.out.ghost_name ≡ before.out.ghost_name
   pub live : Live s
-  pub whole : take end out ++ printed k s (lines (drop at text)) ≡ losses text
+  pub whole : take p.end p.out.now ++ printed k s (lines (drop at text)) ≡ losses text
 
-pub going_none : (text : List ℕ) (s : State) (out : List ℕ) → s ≡ begin → length out ≡ 200064 → Going text s 0 0 0 out
-going_none text s out e h =
-    subst (λ (t : State). Going text t 0 0 0 out) (sym e)
-    (record { count = lit≤ tt; short = zero-le; row = zero-le; long = h; live = live_begin; whole = printed_all text })
+pub going_none : (before : Printed) (text : List ℕ) (s : State) → before.end ≡ 0 → length before.out.now ≡ 200064 → s ≡ begin →
+    Going before text s 0 0 before
+going_none before text s z l e =
+    subst (λ (t : State). Going before text t 0 0 before) (sym e)
+    (record {
+      count = lit≤ tt;
+      short = omega arith;
+      row = zero-le;
+      start = z;
+      room = l;
+      long = refl;
+      same = refl;
+      live = live_begin;
+      whole = ap (λ (n : ℕ). take n before.out.now ++ printed 0 begin (lines text)) z ∙ printed_all text;
+    })
 
--- what is put is as long as what is to be printed
-as_long : (text out : List ℕ) (n : ℕ) → n ≤ length out → take n out ≡ losses text → (take n out ≡ losses text) × (n ≡ length (losses text))
-as_long text out n h e = (e, sym (length-take-le n out h) ∙ ap length e)
+module _ (before : Printed) (text : List ℕ) (s : State) (at k : ℕ) (p : Printed) (g : Going before text s at k p) where
+  -- all is put: as many bytes as are to be printed
+  all_put : (after : Printed) → after.end ≤ length after.out.now → length after.out.now ≡ length before.out.now →
+      after.out.ghost_name ≡ before.out.ghost_name → take after.end after.out.now ≡ losses text → Puts before (losses text) after
+  all_put after h l n e = record {
+    put = (
+      omega (arith, g.start, length-take-le after.end after.out.now h, ap length e),
+      e ∙ ap (λ (m : ℕ). take m before.out.now ++ losses text) (sym g.start),
+    );
+    long = l;
+    same = n;
+  }
 
-module _ (text : List ℕ) (s : State) (at end k : ℕ) (out : List ℕ) (g : Going text s at end k out) where
   -- no line is left
-  pub going_done : length text ≤ at → (take end out ≡ losses text) × (end ≡ length (losses text))
+  pub gone_all : length text ≤ at → Puts before (losses text) p
   unfolding lines printed
-  going_done h =
+  gone_all h =
       let e : drop at text ≡ [] = drop_of_length-le text h in
-      as_long text out end (inside end k (length out) g.short g.count g.long)
-      (sym (append-nil (take end out)) ∙ ap (λ (t : List ℕ). take end out ++ printed k s (lines t)) (sym e) ∙ g.whole)
-    where
-      inside : (e k n : ℕ) → e ≤ 20 * k → k ≤ 10000 → n ≡ 200064 → e ≤ n
-      inside e k n h i j = omega arith
+      all_put p (omega (arith, g.short, g.count, g.room, g.long)) g.long g.same
+      (sym (append-nil (take p.end p.out.now))
+      ∙ ap (λ (t : List ℕ). take p.end p.out.now ++ printed k s (lines t)) (sym e)
+      ∙ g.whole)
 
   -- a line is refused
-  pub room_to_refuse : (number : ℕ) → number ≡ k + 1 → end + length (refusal number) ≤ length out
-  room_to_refuse number e =
-      room end k (length (refusal number)) (length out) g.short g.count (refusal_short number (few k number e g.count)) g.long
-    where
-      few : (k n : ℕ) → n ≡ k + 1 → k ≤ 10000 → n < 100000
-      few k n e h = omega arith
-
-      room : (e k a n : ℕ) → e ≤ 20 * k → k ≤ 10000 → a ≤ 17 → n ≡ 200064 → e + a ≤ n
-      room e k a n h i j l = omega arith
+  pub room_to_refuse : (number : ℕ) → number ≡ k + 1 → HasRoom p (refusal number)
+  room_to_refuse number n =
+      omega (arith, g.short, g.count, g.room, g.long, refusal_short number (omega (arith, n, g.count)))
 
   module _ (h : at < length text) where
     abbrev entry : Entry
@@ -126,18 +143,22 @@ module _ (text : List ℕ) (s : State) (at end k : ℕ) (out : List ℕ) (g : Go
     unfolding printed
     refuses e = still ∙ rw e
 
-    pub going_refused : (number r : ℕ) (after : List ℕ) → number ≡ k + 1 → (ltb k most && entry.right) ≡ false →
-        Put out end (refusal number) after r → length after ≡ length out → (take r after ≡ losses text) × (r ≡ length (losses text))
-    going_refused number r after e b p l =
-        as_long text after r (le_trans (le_of_eq p.0) (le_trans (room_to_refuse number e) (le_of_eq (sym l))))
-        (p.1 ∙ ap (λ (n : ℕ). take end out ++ refusal n) e ∙ ap (λ (t : List ℕ). take end out ++ t) (sym (refuses b)) ∙ g.whole)
+    gone_refused : (number : ℕ) (after : Printed) → number ≡ k + 1 → (ltb k most && entry.right) ≡ false →
+        Puts p (refusal number) after → Puts before (losses text) after
+    gone_refused number after n b q =
+        all_put after (omega (arith, q.put.0, room_to_refuse number n, q.long)) (q.long ∙ g.long) (q.same ∙ g.same)
+        (q.put.1
+        ∙ ap (λ (m : ℕ). take p.end p.out.now ++ refusal m) n
+        ∙ ap (λ (t : List ℕ). take p.end p.out.now ++ t) (sym (refuses b))
+        ∙ g.whole)
 
     -- as the code finds it: all lines are used up, or this one has another form
-    pub full : 10000 ≤ k → (ltb k most && entry.right) ≡ false
-    full n = ap (λ (b : Bool). b && entry.right) (le-ltb k most n)
+    pub gone_full : (after : Printed) → 10000 ≤ k → Puts p (refusal 10001) after → Puts before (losses text) after
+    gone_full after n q =
+        gone_refused 10001 after (omega (arith, g.count)) (ap (λ (b : Bool). b && entry.right) (le-ltb k most n)) q
 
-    module _ (read : Read) (r : read ≡ read_at text at) where
-      is_entry : read.entry ≡ entry
+    module _ (read : MadeRead) (r : as_read read ≡ read_at text at) where
+      is_entry : as_entry read.entry ≡ entry
       unfolding read_at
       is_entry = ap (λ (x : Read). x.entry) r
 
@@ -145,26 +166,34 @@ module _ (text : List ℕ) (s : State) (at end k : ℕ) (out : List ℕ) (g : Go
       unfolding read_at
       is_next = ap (λ (x : Read). x.next) r
 
-      pub other_form : not read.entry.right ≡ true → (ltb k most && entry.right) ≡ false
-      other_form n =
-          ap (λ (b : Bool). ltb k most && b) (ap (λ (e : Entry). e.right) (sym is_entry) ∙ not-true read.entry.right n)
-          ∙ and_false (ltb k most)
+      pub gone_other : (after : Printed) → read.entry ≡ None → Puts p (refusal (k + 1)) after → Puts before (losses text) after
+      gone_other after n q =
+          gone_refused (k + 1) after refl
+          (ap (λ (b : Bool). ltb k most && b) (sym (ap (λ (e : Entry). e.right) (rw n at is_entry)))
+          ∙ and_false (ltb k most))
+          q
         where
           and_false : (b : Bool) → b && false ≡ false
           and_false true = refl
           and_false false = refl
 
       -- a line is taken
-      module _ (next : State) (f : next ≡ follow s read.entry) where
+      module _ (e : Made) (m : read.entry ≡ Some e) (next : State) (f : next ≡ follow s (taken e)) where
+        is_taken : taken e ≡ entry
+        is_taken = rw m at is_entry
+
+        follows : follow s entry ≡ next
+        follows = ap (follow s) (sym is_taken) ∙ sym f
+
         live_next : Live next
-        live_next = subst Live (sym (f ∙ ap (follow s) is_entry)) (live_follow s entry (entry_short (line_at text at)) g.live)
+        live_next = subst Live follows (live_follow s entry (entry_short (line_at text at)) g.live)
 
         pub steady_next : Steady next.ends.coder × Steady next.ends.decoder
         steady_next = (steady next.ends.coder live_next.coder, steady next.ends.decoder live_next.decoder)
 
         row_next : next.arrivals ≤ k + 1
         unfolding follow
-        row_next = subst (λ (t : State). t.arrivals ≤ k + 1) (sym f) (either read.entry.arrives)
+        row_next = subst (λ (t : State). t.arrivals ≤ k + 1) follows (either entry.arrives)
           where
             more : (a k : ℕ) → a ≤ k → a + 1 ≤ k + 1
             more a k h = omega arith
@@ -174,63 +203,43 @@ module _ (text : List ℕ) (s : State) (at end k : ℕ) (out : List ℕ) (g : Go
             either false = zero-le
 
         module _ (below : k < 10000) (q : ℕ) (d : q ≡ apart64 next.ends) where
-          fits : (number : ℕ) → number < 100000 → length (reported number next.arrivals q) ≤ 20
-          fits number n =
-              reported_short number next.arrivals q n (few k next.arrivals g.count row_next)
+          fits : length (reported (k + 1) next.arrivals q) ≤ 20
+          fits =
+              reported_short (k + 1) next.arrivals q (omega arith) (omega (arith, row_next))
               (lt_of_le_of_lt (le_trans (le_of_eq d) (live_few next live_next)) (lit< tt))
-            where
-              few : (k a : ℕ) → k ≤ 10000 → a ≤ k + 1 → a < 100000
-              few k a h l = omega arith
 
-          pub room_to_report : (number : ℕ) → number < 100000 → end + length (reported number next.arrivals q) ≤ length out
-          room_to_report number n =
-              enough end k (length (reported number next.arrivals q)) (length out) g.short below (fits number n) g.long
-            where
-              enough : (e k a n : ℕ) → e ≤ 20 * k → k < 10000 → a ≤ 20 → n ≡ 200064 → e + a ≤ n
-              enough e k a n h i j l = omega arith
+          pub room_to_report : HasRoom p (reported (k + 1) next.arrivals q)
+          room_to_report = omega (arith, g.short, g.room, g.long, fits)
 
-          takes : (number : ℕ) → number ≡ k + 1 → not read.entry.right ≡ false →
-              printed k s (lines (drop at text)) ≡ report number next ++ printed number next (lines (drop read.next text))
+          takes : printed k s (lines (drop at text)) ≡ report (k + 1) next ++ printed (k + 1) next (lines (drop read.next text))
           unfolding printed
-          takes number e n =
-              let right : entry.right ≡ true = ap (λ (x : Entry). x.right) (sym is_entry) ∙ not-false read.entry.right n in
-              let is : follow s entry ≡ next = ap (follow s) (sym is_entry) ∙ sym f in
+          takes =
+              let right : entry.right ≡ true = sym (ap (λ (x : Entry). x.right) is_taken) in
               let A : List ℕ = report (k + 1) (follow s entry) ++ printed (k + 1) (follow s entry) (lines (drop (next_of text at) text)) in
               still
               ∙ ap (λ (b : Bool). cond (b && entry.right) A (refusal (k + 1))) (lt-ltb k most below)
               ∙ ap (λ (b : Bool). cond b A (refusal (k + 1))) right
-              ∙ ap (λ (t : State). report (k + 1) t ++ printed (k + 1) t (lines (drop (next_of text at) text))) is
-              ∙ ap (λ (m : ℕ). report m next ++ printed m next (lines (drop (next_of text at) text))) (sym e)
-              ∙ ap (λ (m : ℕ). report number next ++ printed number next (lines (drop m text))) (sym is_next)
+              ∙ ap (λ (t : State). report (k + 1) t ++ printed (k + 1) t (lines (drop (next_of text at) text))) follows
+              ∙ ap (λ (m : ℕ). report (k + 1) next ++ printed (k + 1) next (lines (drop m text))) (sym is_next)
 
-          pub going_more : (number : ℕ) → number ≡ k + 1 → not read.entry.right ≡ false → (last : ℕ) (after : List ℕ) →
-              Put out end (reported number next.arrivals q) after last → length after ≡ length out →
-              Going text next read.next last number after
-          going_more number e n last after p l =
-              let R = reported number next.arrivals q in
-              let P = printed number next (lines (drop read.next text)) in
+          pub going_more : (after : Printed) → Puts p (reported (k + 1) next.arrivals q) after →
+              Going before text next read.next (k + 1) after
+          going_more after w =
+              let R = reported (k + 1) next.arrivals q in
+              let P = printed (k + 1) next (lines (drop read.next text)) in
               record {
-                count = le_trans (le_of_eq e) (le_trans (le_of_eq (add-one k)) below);
-                short = longer end k (length R) last number g.short (fits number (few k number e below)) p.0 e;
-                row = le_trans row_next (le_of_eq (sym e));
-                long = l ∙ g.long;
+                count = omega arith;
+                short = omega (arith, g.short, fits, w.put.0);
+                row = row_next;
+                start = g.start;
+                room = g.room;
+                long = w.long ∙ g.long;
+                same = w.same ∙ g.same;
                 live = live_next;
                 whole =
-                    ap (λ (t : List ℕ). t ++ P) p.1
-                    ∙ append_assoc (take end out) R P
-                    ∙ ap (λ (x : ℕ). take end out ++ (reported number next.arrivals x ++ P)) d
-                    ∙ ap (λ (t : List ℕ). take end out ++ t) (sym (takes number e n))
+                    ap (λ (t : List ℕ). t ++ P) w.put.1
+                    ∙ append_assoc (take p.end p.out.now) R P
+                    ∙ ap (λ (x : ℕ). take p.end p.out.now ++ (reported (k + 1) next.arrivals x ++ P)) d
+                    ∙ ap (λ (t : List ℕ). take p.end p.out.now ++ t) (sym takes)
                     ∙ g.whole;
               }
-            where
-              few : (k n : ℕ) → n ≡ k + 1 → k < 10000 → n < 100000
-              few k n e h = omega arith
-
-              longer : (e k a l n : ℕ) → e ≤ 20 * k → a ≤ 20 → l ≡ e + a → n ≡ k + 1 → l ≤ 20 * n
-              longer e k a l n h i j m = omega arith
-
-        pub going_less : length text - read.next < length text - at
-        going_less = falls at (length (line_at text at)) (length text) read.next h is_next
-          where
-            falls : (a n t x : ℕ) → a < t → x ≡ a + n + 1 → t - x < t - a
-            falls a n t x h e = omega arith

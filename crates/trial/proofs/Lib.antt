@@ -1,4 +1,3 @@
-mod Following
 pub mod Live
 pub mod Printing
 mod Going

@@ -20,7 +20,7 @@ use Rattle.line_grid.proofs.Sixtyfourths.{held_few}
 use Rattle.ends_apart.specs.Apart.{largest, apart_at, apart64}
 use Rattle.ends_apart.specs.inner.Steps.{Steady}
 use Rattle.ends_apart.proofs.Largest.{largest_each}
-use Rattle.trial_text.specs.declared.Entry.{Entry}
+use Rattle.trial_text.specs.Pattern.{Entry}
 use Rattle.trial.specs.declared.State.{State}
 use Rattle.trial.specs.Losses.{after, follow, begin}
 

@@ -10,8 +10,7 @@ use lib.Dec.{eqb, ltb}
 use lib.ListN.{length, take}
 use lib.Seq.{take-nil}
 use borrow.Author.Tests.{lt-ltb, le-ltb, eq-eqb, ne_eqb, eqb-true, eqb-false}
-use Rattle.trial_text.specs.declared.Entry.{Entry}
-use Rattle.trial_text.specs.Pattern.{lines, entry_of, up_to, entries}
+use Rattle.trial_text.specs.Pattern.{Entry, lines, entry_of, up_to, entries}
 use Rattle.trial_print.specs.Printed.{refusal}
 use Rattle.trial.specs.declared.State.{State}
 use Rattle.trial.specs.Losses.{follow, begin, report, told, most, losses}

@@ -7,8 +7,7 @@ use Rattle.spec_lsp.specs.Decode.{decode_lsp_freq}
 use Rattle.line.specs.Line.{received}
 use Rattle.line.specs.Claim.{start}
 use Rattle.ends_apart.specs.Apart.{apart64}
-use Rattle.trial_text.specs.declared.Entry.{Entry}
-use Rattle.trial_text.specs.Pattern.{lines, entries}
+use Rattle.trial_text.specs.Pattern.{Entry, lines, entries}
 use Rattle.trial_print.specs.Printed.{reported, refusal}
 use Rattle.trial.specs.declared.State.{State}
 

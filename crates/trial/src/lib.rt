@@ -1,124 +1,92 @@
-// A line tried under a loss pattern (request E7): both ends follow the indices of the pattern, and for each line is printed how far they lie apart.
-// `report` makes all that the program `losses` prints of all that it has read.
+// A line tried under a loss pattern (request E7): both ends follow the indices of the pattern, and for each line is printed how far
+// they lie apart. `report` makes all that the program `losses` prints of all that it has read.
 #![tactic(auto)]
 
 ghost use Rattle.std.specs.Prelude.{◌≡◌, ◌≤◌, length, take};
-ghost use Rattle.spec_tables.specs.Codebook.{lsp_rows};
-ghost use Rattle.trial.specs.Losses.{after as Losses·after, follow as Losses·follow, begin as Losses·begin, losses};
+ghost use Rattle.trial_text.specs.Answers.{taken};
+ghost use Rattle.trial_print.specs.inner.Put.{Puts};
+ghost use Rattle.trial.specs.Losses.{follow as Losses·follow, begin as Losses·begin, losses};
 
 use line::Ends;
-use spec_lsp::decode;
+use trial_print::Printed;
 use trial_text::Entry;
 
+// ---- one line of the pattern
+
 // The sets of both ends, and the arrivals in a row.
-#[derive(Drop)]
+#[derive(Clone, Copy)]
 pub struct State {
     pub ends: Ends,
     pub arrivals: u32,
 }
 
-// ---- one line of the pattern
-
-// Both ends at the resting set.
-fn begin() -> State
-    ensures { result ≡ Losses·begin }
-{
-    let ends = line::begin();
-    State { ends, arrivals: 0 }
-}
-
-// A set after an index. Were the index refused, the set would stay.
-fn after(rows: &[i16], index: u32, set: [f32; 10]) -> [f32; 10]
-    requires { rows.now ≡ lsp_rows }
-    ensures { result ≡ Losses·after index set }
-{
-    let got = decode::decode_in(rows, index, set);
-    let status = got.status;
-    if status != 0 {
-        return set;
-    }
-    got.lines
-}
-
-// The coder's set follows every index, the decoder's those that arrive.
-fn follow(rows: &[i16], state: State, entry: Entry) -> State
-    requires fact_1 { rows.now ≡ lsp_rows }
-    requires fact_2 { state.arrivals ≤ 10000 }
-    ensures { result ≡ Losses·follow state entry }
-{
-    let ends = state.ends;
-    let coded = ends.coder;
-    let decoded = ends.decoder;
-    let row = state.arrivals;
-    let index = entry.index;
-    let coder = after(rows, index, coded);
-    if !entry.arrives {
-        let apart = Ends {
-            coder,
-            decoder: decoded,
-        };
-        return State {
-            ends: apart,
+impl State {
+    // Both ends at the resting set.
+    fn begin() -> State
+        ensures { result ≡ Losses·begin }
+    {
+        State {
+            ends: line::begin(),
             arrivals: 0,
-        };
+        }
     }
-    let decoder = after(rows, index, decoded);
-    let both = Ends { coder, decoder };
-    State {
-        ends: both,
-        arrivals: row + 1,
+
+    // The coder's set follows every index, the decoder's those that arrive.
+    #[tactic(auto, unfolding(crate::specs::Losses::follow))]
+    fn follow(&mut self, entry: Entry)
+        requires { self.old.arrivals ≤ 10000 }
+        ensures { self.new ≡ Losses·follow self.old (taken entry) }
+    {
+        self.ends.coder = line::received(entry.index, self.ends.coder);
+        if entry.arrives {
+            self.ends.decoder = line::received(entry.index, self.ends.decoder);
+            self.arrivals += 1;
+        } else {
+            self.arrivals = 0;
+        }
     }
 }
 
 // ---- all lines
 
-// Goes through the lines until one is refused or none is left, and answers where what was put into the buffer ends.
-fn print(rows: &[i16], text: &[u8], out: &mut [u8]) -> usize
-    requires fact_1 { rows.now ≡ lsp_rows }
-    requires fact_2 { length out.old ≡ 200064 }
-    ensures out_after { take result out.new ≡ losses text.now }
-    ensures value { result ≡ length (losses text.now) }
+// Goes through the lines until one is refused or none is left.
+#[tactic(auto, using(crate::proofs::Going::room_to_refuse, crate::proofs::Going::room_to_report))]
+fn print(text: &[u8], printed: &mut Printed)
+    requires start { printed.old.end ≡ 0 }
+    requires room { length printed.old.out.now ≡ 200064 }
+    ensures { Puts printed.old (losses text.now) printed.new }
 {
-    let mut state = begin();
-    let mut at: usize = 0;
-    let mut end: usize = 0;
-    let mut k: u32 = 0;
-    while at < text.len() {
-        let number = k + 1;
-        if number == 10001 {
-            return trial_print::put_refusal(out, end, number);
+    let mut state = State::begin();
+    // a place, and no iterator over lines, which has none: the edit next_line_from_the_output is about it, and trial_text's line_feed_left
+    let mut at = 0;
+    for k in 0..10000 {
+        if at >= text.len() {
+            return;
         }
         let read = trial_text::line_at(text, at);
-        let entry = read.entry;
-        if !entry.right {
-            return trial_print::put_refusal(out, end, number);
-        }
-        let next = follow(rows, state, entry);
-        let q = ends_apart::apart_64(next.ends);
-        let arrivals = next.arrivals;
-        let last = trial_print::put_report(out, end, number, arrivals, q);
-        state = next;
-        end = last;
-        k = number;
+        let Some(entry) = read.entry else {
+            printed.put_refusal(k + 1);
+            return;
+        };
+        state.follow(entry);
+        let apart = ends_apart::apart_64(state.ends);
+        printed.put_report(k + 1, state.arrivals, apart);
         at = read.next;
     }
-    end
+    if at < text.len() {
+        printed.put_refusal(10001);
+    }
 }
 
-// Zeros. The `ensures` gives the length alone: the prover need not look at them.
-pub fn blank() -> [u8; 200064]
-    ensures { 200064 ≡ length result }
-{
-    [0; 200064]
-}
+// Room for all that is ever printed: 10,000 lines of at most twenty bytes, and a refusal of seventeen.
+pub const ROOM: usize = 200064;
 
-// All that is printed of all that was read, at the start of the buffer: 10,000 lines of at most twenty bytes, and a refusal of seventeen, fit in it.
-pub fn report(text: &[u8], out: &mut [u8; 200064]) -> usize
+// All that is printed of all that was read, at the start of the buffer.
+pub fn report(text: &[u8], out: &mut [u8; ROOM]) -> usize
     ensures out_after { take result out.new ≡ losses text.now }
     ensures value { result ≡ length (losses text.now) }
 {
-    let zeros = blank();
-    *out = zeros;
-    let rows = spec_tables::lsp_rows();
-    print(&rows, text, out)
+    let mut printed = Printed { out, end: 0 };
+    print(text, &mut printed);
+    printed.end
 }

@@ -13,8 +13,7 @@ use Prim.Native.Nat.{ℕ, ◌+◌}
 use native.Mathlib.Nat.{zero-add, le_refl}
 use lib.Dec.{eqb}
 use lib.ListN.{length, take}
-use Rattle.trial_text.specs.declared.Entry.{Entry}
-use Rattle.trial_text.specs.Pattern.{lines, entries}
+use Rattle.trial_text.specs.Pattern.{Entry, lines, entries}
 use Rattle.trial_print.specs.Printed.{refusal}
 use Rattle.trial.specs.declared.State.{State}
 use Rattle.trial.specs.Losses.{begin, report, told, most, losses}

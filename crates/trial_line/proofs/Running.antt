@@ -18,7 +18,7 @@ use Rattle.spec_lsp.specs.Decode.{decoded}
 use Rattle.line.specs.declared.Ends.{Ends}
 use Rattle.line.proofs.Held.{u, decoded_shrinks, held_apart}
 use Rattle.line.proofs.Powers.{none, more}
-use Rattle.trial_text.specs.declared.Entry.{Entry}
+use Rattle.trial_text.specs.Pattern.{Entry}
 use Rattle.trial.specs.declared.State.{State}
 use Rattle.ends_apart.specs.Apart.{apart_at}
 use Rattle.trial.specs.Losses.{after, follow, begin}

@@ -7,8 +7,7 @@ use Prim.Native.Nat.{ℕ, suc, ◌+◌}
 use native.Mathlib.Nat.{add-zero}
 use native.Mathlib.Omega.{arith}
 use lib.ListN.{length}
-use Rattle.trial_text.specs.declared.Entry.{Entry}
-use Rattle.trial_text.specs.Pattern.{entry_of, up_to, entries}
+use Rattle.trial_text.specs.Pattern.{Entry, entry_of, up_to, entries}
 use Rattle.trial_text.proofs.Short.{entry_short}
 use Rattle.trial.specs.declared.State.{State}
 use Rattle.trial.specs.Losses.{follow, report, told}

@@ -17,12 +17,12 @@ use Prim.Native.Nat.{ℕ, ◌+◌, ◌*◌, ◌^◌, ◌≤◌, ◌<◌, zero-le
 use native.Mathlib.Nat.{le_trans, le_of_eq, mul-zero, mul-le-mul_left}
 use native.Mathlib.Omega.{arith}
 use lib.ListN.{length}
-use Rattle.float.specs.declared.Lines.{Lines}
+use Rattle.float.specs.Lines.{Lines}
 use Rattle.line.proofs.Held.{u, ten_held}
 use Rattle.line.proofs.Powers.{demanded, settled}
 use Rattle.line_grid.specs.Sixtyfourths.{up64}
 use Rattle.line_grid.proofs.RoundedUp.{up64_zero, up64_two, printed}
-use Rattle.trial_text.specs.declared.Entry.{Entry}
+use Rattle.trial_text.specs.Pattern.{Entry}
 use Rattle.trial.specs.declared.State.{State}
 use Rattle.ends_apart.specs.Apart.{apart_at, largest, apart64}
 use Rattle.ends_apart.proofs.Largest.{largest_each, among_largest}

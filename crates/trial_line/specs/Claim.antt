@@ -6,8 +6,7 @@ use Rattle.std.specs.Prelude.{ℕ, ◌+◌, ◌*◌, ◌^◌, ◌≤◌, ◌≡�
 use Rattle.spec_tables.specs.Codebook.{lsp_rows}
 use Rattle.spec_lsp.specs.Decode.{decode_lsp_freq}
 use Rattle.line.specs.Claim.{Ten}
-use Rattle.trial_text.specs.declared.Entry.{Entry}
-use Rattle.trial_text.specs.Pattern.{lines, entries}
+use Rattle.trial_text.specs.Pattern.{Entry, lines, entries}
 use Rattle.trial_print.specs.Printed.{reported}
 use Rattle.trial.specs.declared.State.{State}
 use Rattle.ends_apart.specs.Apart.{apart64}

@@ -1,4 +1,3 @@
-mod Values
-mod Bytes
+pub mod Digits
 pub mod First
 pub mod Short

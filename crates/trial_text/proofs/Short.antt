@@ -10,8 +10,7 @@ use lib.Ieee.Fits.{and_l, and_r}
 use lib.ListN.{length, take, get_or}
 use lib.Seq.{length-take-le}
 use Rattle.float.specs.Refusal.{all}
-use Rattle.trial_text.specs.declared.Entry.{Entry}
-use Rattle.trial_text.specs.Pattern.{digit, is_digit, hexadecimal, has_form, other, entry_of}
+use Rattle.trial_text.specs.Pattern.{digit, is_digit, hexadecimal, has_form, other, Entry, entry_of}
 
 -- digits after n
 under : (n : ℕ) (ds : List ℕ) → T (all is_digit ds) → hexadecimal n ds < suc n * 16 ^ length ds

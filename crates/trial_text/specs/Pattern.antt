@@ -1,9 +1,7 @@
--- A loss pattern as text, in bytes: cut into lines, and what a line says. `Entry` is the code's struct: whether the line has the form, and
--- if so its index and whether that arrives.
+-- A loss pattern as text, in bytes: cut into lines, and what a line says.
 -- Added by design: the Recommendation has no such text. Document 02, E7.2, E7.3 and E7.9. Assumes nothing.
 use Rattle.std.specs.Prelude.{ℕ, ◌+◌, ◌-◌, ◌*◌, Bool, true, false, ◌&&◌, ◌||◌, cond, List, [], ◌∷◌, eqb, ltb, leb, length, get_or, take}
 use Rattle.float.specs.Refusal.{all}
-use Rattle.trial_text.specs.declared.Entry.{Entry}
 
 abbrev pub line_feed : ℕ
 line_feed = 10
@@ -22,6 +20,12 @@ lines (c ∷ cs) =
     cond (eqb c line_feed) ([] ∷ rest) (ahead c rest)
 
 -- ---- a line
+-- whether it has the form, and if so its index and whether that arrives
+pub record Entry : Type 0 where
+  pub right : Bool
+  pub index : ℕ
+  pub arrives : Bool
+
 -- the value of `0` to `9` and `A` to `F`, and 16 of any other byte
 unfoldable pub digit : ℕ → ℕ
 digit c = cond (leb 48 c && leb c 57) (c - 48) (cond (leb 65 c && leb c 70) (c - 55) 16)

@@ -1,14 +1,12 @@
 -- The stage of the weighting: each subframe through the weighting filter of its own window, the filter's memories carried from one to the
 -- next. The weighted speech is what was kept of it before the frame, and the frame's four subframes.
 -- Document 02, E2.4 and E2.9; §2.8. Assumes nothing.
-use Rattle.std.specs.Prelude.{List, [], ◌∷◌, ◌++◌, Float}
+use Rattle.std.specs.Prelude.{ℕ, List, [], ◌∷◌, ◌++◌, Float}
 use Rattle.float.specs.Refusal.{first_of, answer}
 use Rattle.weighting.specs.Taps.{weighting_taps}
-use Rattle.weighting.specs.Filter.{refusal, weight_subframe}
-use Rattle.weighting.specs.declared.Weighted.{Weighted}
-use Rattle.frame_parts.specs.declared.Filters.{Filters}
+use Rattle.weighting.specs.Filter.{Weighted, refusal, weight_subframe}
+use Rattle.frame_parts.specs.Four.{Filters}
 use Rattle.frame_parts.specs.Parts.{subframe}
-use Rattle.voice.specs.declared.Speech.{Speech}
 
 -- one subframe y through the weighting filter of a window's filter a, after the memories xs and fs
 unfoldable pub weighed : List Float → List Float → List Float → List Float → Weighted
@@ -19,6 +17,13 @@ weighed a y xs fs =
 -- the next one, after the memories that the one before it has left
 abbrev pub next : List Float → List Float → Weighted → Weighted
 next a y before = weighed a y before.x_mem before.f_mem
+
+-- the weighted speech, 145 samples of the past and the frame's, and the filter's memories after it
+pub record Speech : Type 0 where
+  pub status : ℕ
+  pub speech : List Float
+  pub x_mem : List Float
+  pub f_mem : List Float
 
 -- the frame, after the memories xs and fs and the weighted speech of the past
 unfoldable pub weighting : List Float → List Float → List Float → Filters → List Float → Speech

@@ -1,16 +1,17 @@
 -- A delay holds a memory: at its start the one given, and one sample later that memory with the new value first.
 -- Assumes nothing.
-use mathlib.Core.Path.{◌≡◌, refl, sym, ap, ◌∙◌}
-use mathlib.Core.List.{List, ◌∷◌}
-use Prim.Native.Nat.{ℕ, suc, ◌+◌, ◌-◌, ◌≤◌, ◌<◌, zero-le}
-use native.Mathlib.Numerals.{add-one}
+use mathlib.Core.Path.{◌≡◌, sym, ap, ◌∙◌}
+use mathlib.Core.List.{List, [], ◌∷◌, ◌++◌, reverse}
+use Prim.Native.Nat.{ℕ, suc, ◌+◌, ◌-◌, ◌≤◌, ◌<◌}
 use native.Mathlib.Omega.{arith}
-use lib.ListN.{length, take, drop, set, length-set, length-drop}
-use lib.Seq.{take_all, take-suc, take-suc-set, drop-set-add, get_or-set_same, get_or-set_other, get_or-take}
+use lib.ListN.{length, take, drop, set, length-drop}
+use lib.Seq.{ext_get_or, length-take-le, get_or-set_same, get_or-set_other, get_or-take, get_or-drop}
+use Rattle.std.proofs.lemmas.List.{append-nil, drop_all, drop_at, length-append, length-reverse, get_or-reverse, get_or_append_left}
 use lib.Ieee.{Float, nan}
+use borrow.Rule.Slice.PartMut.{put_mid}
 use Rattle.float.specs.Table.{table}
 use Rattle.float.specs.Vector.{at}
-use Rattle.float.proofs.Table.{at_table, same_table, table_first, take_table, table_entries, Filled}
+use Rattle.float.proofs.Table.{length_table, at_table, same_table, table_first, take_table, table_entries}
 use Rattle.weighting.specs.Filter.{later}
 use Rattle.weighting.specs.inner.Delay.{behind, Delay}
 
@@ -43,48 +44,50 @@ pub behind_more : (n : ℕ) (delay : List Float) (v : Float) → n + 10 < length
     → behind (n + 1) (set delay (n + 10) v) ≡ later v (behind n delay)
 behind_more n delay v h = behind_next n (set delay (n + 10) v) ∙ rw (get_or-set_same delay (n + 10) v nan h, behind_set n (n + 10) delay v (omega arith))
 
--- ten places filled from the last value of a memory to its first
-pub behind_none : (memory delay : List Float) (k : ℕ) → length memory ≡ 10 → k ≡ 10
-    → Filled 70 (λ i. at memory (9 - i)) k delay → behind 0 delay ≡ memory
+-- ---- a memory turned, and what stands last in a delay
+turned : (n : ℕ) (xs : List Float) → length xs ≡ n → reverse xs ≡ table n (λ k. at xs (n - 1 - k))
+turned n xs h =
+    ext_get_or nan (reverse xs) (table n (λ k. at xs (n - 1 - k))) (length-reverse xs ∙ h ∙ sym (length_table n (λ k. at xs (n - 1 - k))))
+    (λ i l.
+    let b : i < n = rw (length-reverse xs ∙ h) at l in
+    get_or-reverse xs i nan (omega arith) ∙ rw h (sym (at_table n (λ k. at xs (n - 1 - k)) i nan b)))
+
+pub behind_first : (memory rest : List Float) → length memory ≡ 10 → behind 0 (reverse memory ++ rest) ≡ memory
 unfolding behind
-behind_none memory delay k h e r = same_table 10 (λ i. at delay (9 - i)) (at memory) place ∙ table_entries 10 memory nan h
-  where
-    turned : take 10 delay ≡ table 10 (λ j. at memory (9 - j))
-    turned = rw e at r.done
+behind_first memory rest h =
+    same_table 10 (λ k. at (reverse memory ++ rest) (9 - k)) (at memory)
+    (λ k l.
+    let long : 9 - k < length (reverse memory) = rw (length-reverse memory ∙ h) (omega arith) in
+    let there : length memory - 1 - (9 - k) ≡ k = omega arith in
+    get_or_append_left (reverse memory) rest nan (9 - k) long ∙ get_or-reverse memory (9 - k) nan (omega arith) ∙ ap (at memory) there)
+    ∙ table_entries 10 memory nan h
 
-    place : (i : ℕ) → i < 10 → at delay (9 - i) ≡ at memory i
-    place i l =
-        let p : 9 - i < 10 = omega arith in
-        let q : 9 - (9 - i) ≡ i = omega arith in
-        sym (get_or-take 10 delay (9 - i) nan p) ∙ ap (λ (l : List Float). at l (9 - i)) turned ∙ at_table 10 (λ j. at memory (9 - j)) (9 - i) nan p ∙ ap (at memory) q
+pub behind_last : (delay : List Float) → length delay ≡ 70 → reverse (drop 60 delay) ≡ behind 60 delay
+unfolding behind
+behind_last delay h =
+    turned 10 (drop 60 delay) (simp length-drop (omega arith))
+    ∙ same_table 10 (λ k. at (drop 60 delay) (9 - k)) (λ k. at delay (69 - k))
+    (λ k l.
+    let there : 60 + (9 - k) ≡ 69 - k = omega arith in
+    get_or-drop 60 delay (9 - k) nan ∙ ap (at delay) there)
 
--- ---- a delay after n of its samples
-pub record Laid (memory x : List Float) (n : ℕ) (delay : List Float) : Type 0 where
-  pub most : n ≤ 60
-  pub long : length delay ≡ 70
-  pub start : behind 0 delay ≡ memory
-  pub rest : take n (drop 10 delay) ≡ take n x
+-- what is put behind a memory does not change it
+pub behind_kept : (delay x : List Float) → 10 ≤ length delay → behind 0 (take 10 delay ++ x) ≡ behind 0 delay
+unfolding behind
+behind_kept delay x h =
+    same_table 10 (λ k. at (take 10 delay ++ x) (9 - k)) (λ k. at delay (9 - k))
+    (λ k l.
+    let long : 9 - k < length (take 10 delay) = rw (length-take-le 10 delay h) (omega arith) in
+    get_or_append_left (take 10 delay) x nan (9 - k) long ∙ get_or-take 10 delay (9 - k) nan (omega arith))
 
-pub laid_none : (x delay : List Float) → length delay ≡ 70 → Laid (behind 0 delay) x 0 delay
-laid_none x delay h = record { most = zero-le; long = h; start = refl; rest = refl }
-
-pub laid_more : (memory x delay : List Float) (n : ℕ) → length x ≡ 60 → n < 60 → Laid memory x n delay
-    → Laid memory x (n + 1) (set delay (n + 10) (at x n))
-laid_more memory x delay n e h r =
-    let a : n + 10 ≡ 10 + n = omega arith in
-    let l : n < length (drop 10 delay) = simp length-drop (omega (arith, r.long)) in
-    let m : n < length x = omega arith in
-    record {
-      most = omega arith;
-      long = length-set delay (n + 10) (at x n) ∙ r.long;
-      start = behind_set 0 (n + 10) delay (at x n) (omega arith) ∙ r.start;
-      rest = rw (a, drop-set-add 10 delay n (at x n), add-one, take-suc-set (drop 10 delay) n (at x n) l, r.rest, take-suc x n nan m);
-    }
-
-pub laid_all : (memory x delay₀ delay : List Float) (n : ℕ) → length x ≡ 60 → 60 ≤ n → behind 0 delay₀ ≡ memory
-    → Laid (behind 0 delay₀) x n delay → Delay memory x delay
-laid_all memory x delay₀ delay n e h g r =
-    let d : n ≡ 60 = omega (arith, r.most) in
-    let l : length (drop 10 delay) ≤ 60 = simp length-drop (omega (arith, r.long)) in
-    let t : take 60 (drop 10 delay) ≡ take 60 x = rw d at r.rest in
-    record { long = r.long; start = r.start ∙ g; rest = sym (take_all 60 (drop 10 delay) l) ∙ t ∙ take_all 60 x (omega arith) }
+-- ---- sixty samples put behind a memory
+pub laid : (memory x delay : List Float) → length delay ≡ 70 → length x ≡ 60 → behind 0 delay ≡ memory →
+    Delay memory x (put_mid 10 60 delay x)
+laid memory x delay h k e =
+    let none : drop 60 (drop 10 delay) ≡ [] = drop_all 60 (drop 10 delay) (simp length-drop (omega arith)) in
+    let front : length (take 10 delay) ≡ 10 = length-take-le 10 delay (omega arith) in
+    rw (none, append-nil) (record {
+      long = length-append (take 10 delay) x ∙ rw (front, k);
+      start = behind_kept delay x (omega arith) ∙ e;
+      rest = drop_at (take 10 delay) x 10 front;
+    })

@@ -1,13 +1,15 @@
 -- The formant perceptual weighting filter W(z) over one subframe: f[n] = x[n] + Σ (wz[k] x[n−k−1] − wp[k] f[n−k−1]), the ten terms added
 -- one after the other. A memory holds the ten values before a sample, most recent first.
 -- §2.8; document 01, B46 and B47. Assumes nothing.
-use Rattle.std.specs.Prelude.{ℕ, Bool, not, List, [], ◌∷◌, ◌++◌, eqb, length, take, Float}
+use Rattle.std.specs.Prelude.{ℕ, Bool, not, List, [], ◌∷◌, ◌++◌, eqb, length, take, Float, Result}
 use Rattle.float.specs.Finite.{not_finite}
 use Rattle.float.specs.Loop.{over}
 use Rattle.float.specs.Refusal.{any, first, answer}
 use Rattle.float.specs.Single.{◌⊕◌, ◌⊖◌, ◌⊗◌}
 use Rattle.float.specs.Vector.{at, zeros}
-use Rattle.weighting.specs.declared.Weighted.{Weighted}
+use Rattle.float.specs.Answered.{answered}
+use Rattle.float.specs.declared.status.Refusal.{Refusal}
+use Rattle.weighting.specs.declared.Weighted.{Weighted as WeightedMade}
 
 -- term k of the sum, after the inputs xs and the outputs fs
 unfoldable pub add_tap : List Float → List Float → List Float → List Float → ℕ → Float → Float
@@ -37,6 +39,13 @@ sample wz wp x n s = advance (at x n) (weighted wz wp (at x n) s.inputs s.output
 abbrev pub filtered : List Float → List Float → List Float → List Float → List Float → ℕ → Filter
 filtered x wz wp xs fs n = over 0 n (sample wz wp x) (record { inputs = xs; outputs = fs; out = [] })
 
+-- what is answered: a status, the samples, and both memories
+pub record Weighted : Type 0 where
+  pub status : ℕ
+  pub out : List Float
+  pub x_mem : List Float
+  pub f_mem : List Float
+
 abbrev pub done : Filter → Weighted
 done s = record { status = 0; out = s.out; x_mem = s.inputs; f_mem = s.outputs }
 
@@ -50,3 +59,10 @@ subframe_refusals x wz wp xs fs = (1, not (eqb (length x) 60)) ∷ (5, any not_f
 
 unfoldable pub weight_subframe : List Float → List Float → List Float → List Float → List Float → Weighted
 weight_subframe x wz wp xs fs = answer (first (subframe_refusals x wz wp xs fs)) (refusal xs fs) (done (filtered x wz wp xs fs 60))
+
+-- the answer of the code: a refusal has no memories of its own, they are as given
+abbrev pub made : WeightedMade → Weighted
+made w = record { status = 0; out = w.out; x_mem = w.x_mem; f_mem = w.f_mem }
+
+abbrev pub as_weighted : List Float → List Float → Result WeightedMade Refusal → Weighted
+as_weighted xs fs = answered (refusal xs fs) made

@@ -1,63 +1,44 @@
 // The formant perceptual weighting filter (§2.8): its taps, and one subframe through it.
 #![tactic(auto)]
 
-ghost use Rattle.std.specs.Prelude.{◌≡◌, not, [], ◌∷◌, ◌<◌, length};
-ghost use Rattle.float.specs.Finite.{not_finite};
-ghost use Rattle.float.specs.Refusal.{any, first};
+ghost use Rattle.std.specs.Prelude.{◌≡◌, ◌<◌, drop};
 ghost use Rattle.float.specs.Single.{◌⊕◌, ◌⊖◌, ◌⊗◌};
-ghost use Rattle.weighting.specs.Taps.{taps, refused_taps, weighting_taps};
-ghost use Rattle.weighting.specs.Filter.{weighted, filtered, done, refusal, subframe_refusals, weight_subframe};
+ghost use Rattle.weighting.specs.Taps.{taps, as_taps, weighting_taps};
+ghost use Rattle.weighting.specs.Filter.{weighted, filtered, done, made, as_weighted, weight_subframe};
 ghost use Rattle.weighting.specs.inner.Delay.{behind, Delay};
+
+use float::status::Refusal;
 
 #[derive(Drop)]
 pub struct WeightingTaps {
-    pub status: u32,
     pub wz: [f32; 10],
     pub wp: [f32; 10],
 }
 
 #[derive(Clone, Copy)]
 pub struct Weighted {
-    pub status: u32,
     pub out: [f32; 60],
     pub x_mem: [f32; 10],
     pub f_mem: [f32; 10],
 }
 
 // Coefficients 1 to 10, each times its entry / 32,768.
-fn scaled(a: [f32; 11], entries: [i16; 10]) -> [f32; 10]
-    ensures { result ≡ taps entries a }
+fn scaled(a: &[f32; 11], entries: &[i16; 10]) -> [f32; 10]
+    ensures { result ≡ taps entries.now a.now }
 {
-    let mut out = [0.0f32; 10];
-    for k in 0..10 {
-        out[k] = a[k + 1] * (entries[k] as f32 / 32768.0);
-    }
-    out
-}
-
-fn refused_taps(status: u32) -> WeightingTaps
-    ensures { result ≡ refused_taps status }
-{
-    WeightingTaps {
-        status,
-        wz: [0.0f32; 10],
-        wp: [0.0f32; 10],
-    }
+    std::array::from_fn(|k| a[k + 1] * (f32::from(entries[k]) / 32768.0))
 }
 
 // The filter's taps from a predictor's coefficients: those of its zeros, and those of its poles.
-pub fn weighting_taps(a: [f32; 11]) -> WeightingTaps
-    ensures { result ≡ weighting_taps a }
+#[tactic(auto, using(float::proofs::Refusal::exits), unfolding(crate::specs::Taps::weighting_taps))]
+pub fn weighting_taps(a: [f32; 11]) -> Result<WeightingTaps, Refusal>
+    ensures { as_taps result ≡ weighting_taps a }
 {
-    let status = float::check_finite(&a);
-    if status != 0 {
-        return refused_taps(status);
-    }
-    let zeros = spec_tables::perceptual_zero();
-    let poles = spec_tables::perceptual_pole();
-    let wz = scaled(a, zeros);
-    let wp = scaled(a, poles);
-    WeightingTaps { status: 0, wz, wp }
+    float::check_finite(&a)?;
+    Ok(WeightingTaps {
+        wz: scaled(&a, &spec_tables::perceptual_zero()),
+        wp: scaled(&a, &spec_tables::perceptual_pole()),
+    })
 }
 
 // One term of the filter's sum.
@@ -68,154 +49,86 @@ pub fn add_tap(f: f32, z: f32, x: f32, p: f32, past: f32) -> f32
 }
 
 // A delay that starts with a memory, oldest first.
-pub fn start_delay(memory: [f32; 10]) -> [f32; 70]
-    ensures { behind 0 result ≡ memory }
+pub fn start_delay(memory: &[f32; 10]) -> [f32; 70]
+    ensures { behind 0 result ≡ memory.now }
 {
+    let mut oldest_first = *memory;
+    oldest_first.reverse();
     let mut delay = [0.0f32; 70];
-    for k in 0..10 {
-        delay[k] = memory[9 - k];
-    }
+    delay[..10].copy_from_slice(&oldest_first);
     delay
 }
 
 // A delay: a memory, and the sixty samples after it.
-fn delayed(memory: [f32; 10], x: &[f32]) -> [f32; 70]
-    requires { length x.now ≡ 60 }
-    ensures { Delay memory x.now result }
+fn delayed(memory: &[f32; 10], x: &[f32; 60]) -> [f32; 70]
+    ensures { Delay memory.now x.now result }
 {
     let mut delay = start_delay(memory);
-    for i in 0..60 {
-        delay[i + 10] = x[i];
-    }
+    delay[10..].copy_from_slice(x);
     delay
 }
 
+// The sixty samples of a delay after its memory.
+fn samples(delay: &[f32; 70]) -> [f32; 60]
+    ensures { result ≡ drop 10 delay.now }
+{
+    *delay.last_chunk().unwrap()
+}
+
 // The last ten values of a delay, most recent first.
+#[tactic(auto, using(crate::proofs::Delay::behind_last))]
 pub fn last_ten(delay: &[f32; 70]) -> [f32; 10]
     ensures { result ≡ behind 60 delay.now }
 {
-    let mut memory = [0.0f32; 10];
-    for k in 0..10 {
-        memory[k] = delay[69 - k];
-    }
+    let mut memory = *delay.last_chunk().unwrap();
+    memory.reverse();
     memory
 }
 
-// Sample n of the filter, x with the inputs and the outputs before it.
-pub fn weight_sample(
-    x: f32,
-    n: usize,
-    wz: &[f32; 10],
-    wp: &[f32; 10],
-    xs: &[f32; 70],
-    fs: &[f32; 70],
-) -> f32
+// Sample n of the filter, x with the inputs and the outputs before it. Inside the loop that calls it: outside of it the combined filter took
+// 863 instructions more a call.
+#[inline(always)]
+pub fn weight_sample(x: f32, n: usize, taps: &WeightingTaps, xs: &[f32; 70], fs: &[f32; 70]) -> f32
     requires { n < 60 }
-    ensures { result ≡ weighted wz.now wp.now x (behind n xs.now) (behind n fs.now) }
+    ensures { result ≡ weighted taps.now.wz taps.now.wp x (behind n xs.now) (behind n fs.now) }
 {
     let mut f = x;
+    // four arrays by one index, two of them from their end: no chain says it more plainly
     for k in 0..10 {
-        f = add_tap(f, wz[k], xs[n + 9 - k], wp[k], fs[n + 9 - k]);
+        f = add_tap(f, taps.wz[k], xs[n + 9 - k], taps.wp[k], fs[n + 9 - k]);
     }
     f
 }
 
-// Sixty samples as an array of their own.
-fn sixty(x: &[f32]) -> [f32; 60]
-    requires { length x.now ≡ 60 }
-    ensures { result ≡ x.now }
-{
-    let mut out = [0.0f32; 60];
-    for i in 0..60 {
-        out[i] = x[i];
-    }
-    out
-}
-
-// Sixty samples, each replaced by its output, which joins the delay of outputs too.
-fn weight_all(
-    x: &[f32],
-    wz: [f32; 10],
-    wp: [f32; 10],
-    x_mem: [f32; 10],
-    f_mem: [f32; 10],
-) -> Weighted
-    requires { length x.now ≡ 60 }
-    ensures { result ≡ done (filtered x.now wz wp x_mem f_mem 60) }
+// Sixty samples through the filter: each output joins the delay of outputs.
+fn weight_all(x: &[f32; 60], taps: &WeightingTaps, x_mem: &[f32; 10], f_mem: &[f32; 10]) -> Weighted
+    ensures { made result ≡ done (filtered x.now taps.now.wz taps.now.wp x_mem.now f_mem.now 60) }
 {
     let xs = delayed(x_mem, x);
     let mut fs = start_delay(f_mem);
-    let mut out = sixty(x);
-    for n in 0..60 {
-        let v = out[n];
-        let f = weight_sample(v, n, &wz, &wp, &xs, &fs);
-        fs[n + 10] = f;
-        out[n] = f;
+    for (n, v) in x.iter().enumerate() {
+        fs[n + 10] = weight_sample(*v, n, taps, &xs, &fs);
     }
-    let x_after = last_ten(&xs);
-    let f_after = last_ten(&fs);
     Weighted {
-        status: 0,
-        out,
-        x_mem: x_after,
-        f_mem: f_after,
+        out: samples(&fs),
+        x_mem: last_ten(&xs),
+        f_mem: last_ten(&fs),
     }
 }
 
-fn refused(status: u32, x_mem: [f32; 10], f_mem: [f32; 10]) -> Weighted
-    ensures { result ≡ refusal x_mem f_mem status }
-{
-    Weighted {
-        status,
-        out: [0.0f32; 60],
-        x_mem,
-        f_mem,
-    }
-}
-
-fn given_finite(x: &[f32], wz: [f32; 10], wp: [f32; 10], x_mem: [f32; 10], f_mem: [f32; 10]) -> bool
-    ensures { result ≡ not (any not_finite (x.now ∷ wz ∷ wp ∷ x_mem ∷ f_mem ∷ [])) }
-{
-    let signal = float::all_finite(x);
-    let zeros = float::all_finite(&wz);
-    let poles = float::all_finite(&wp);
-    let inputs = float::all_finite(&x_mem);
-    let outputs = float::all_finite(&f_mem);
-    signal & (zeros & (poles & (inputs & outputs)))
-}
-
-// The first refusal due: 1 if not 60 samples; 5 for any float.
-fn check_subframe(
-    x: &[f32],
-    wz: [f32; 10],
-    wp: [f32; 10],
-    x_mem: [f32; 10],
-    f_mem: [f32; 10],
-) -> u32
-    ensures { result ≡ first (subframe_refusals x.now wz wp x_mem f_mem) }
-{
-    if x.len() != 60 {
-        return 1;
-    }
-    if !given_finite(x, wz, wp, x_mem, f_mem) {
-        return 5;
-    }
-    0
-}
-
-// One subframe through the filter. Both memories come back; on a refusal they are as given.
+// One subframe through the filter: 60 samples, and no float that is not finite. Both memories come back. Taps and memories stay apart, as
+// docs/TRUST.md promises it by them.
+#[tactic(auto, using(float::proofs::Refusal::exits), unfolding(crate::specs::Filter::weight_subframe))]
 pub fn weight_subframe(
     x: &[f32],
     wz: [f32; 10],
     wp: [f32; 10],
     x_mem: [f32; 10],
     f_mem: [f32; 10],
-) -> Weighted
-    ensures { result ≡ weight_subframe x.now wz wp x_mem f_mem }
+) -> Result<Weighted, Refusal>
+    ensures { as_weighted x_mem f_mem result ≡ weight_subframe x.now wz wp x_mem f_mem }
 {
-    let status = check_subframe(x, wz, wp, x_mem, f_mem);
-    if status != 0 {
-        return refused(status, x_mem, f_mem);
-    }
-    weight_all(x, wz, wp, x_mem, f_mem)
+    let x = x.as_array().ok_or(Refusal::Length)?;
+    float::check_lists(&[x, &wz, &wp, &x_mem, &f_mem])?;
+    Ok(weight_all(x, &WeightingTaps { wz, wp }, &x_mem, &f_mem))
 }

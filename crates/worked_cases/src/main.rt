@@ -15,485 +15,355 @@ mod narrowing;
 mod rows;
 mod stages;
 
-// Standard output, by its number.
-const STDOUT_FILENO: i32 = 1;
-
-#[derive(Drop)]
-struct Tally {
-    passed: u64,
-    failed: u64,
-}
-
-// Writes a case's line and counts it. The counts wrap, which no number of cases reaches, so that a new case needs no proof
-// here.
-fn case(tally: Tally, name: &[u8], holds: bool) -> Tally {
-    let passed = tally.passed;
-    let failed = tally.failed;
-    io::write_all(STDOUT_FILENO, name);
-    if holds {
-        io::write_all(STDOUT_FILENO, b": ok\n");
-        return Tally {
-            passed: std::num::wrapping_add_u64(passed, 1),
-            failed,
-        };
-    }
-    io::write_all(STDOUT_FILENO, b": FAILED\n");
-    Tally {
-        passed,
-        failed: std::num::wrapping_add_u64(failed, 1),
-    }
-}
+use float::status::Refusal;
+use tally::Tally;
 
 // 65,536.0078125 is the next single above 65,536.
-fn frequency_cases(tally: Tally) -> Tally {
-    let t = case(
-        tally,
-        b"frequency 3/1024 takes step 2",
+fn frequency_cases(t: &mut Tally<impl Print>) {
+    t.case(
+        "frequency 3/1024 takes step 2",
         frequencies::step_is(3.0 / 1024.0, 2),
     );
-    let t = case(
-        t,
-        b"frequency -3/1024 takes step 2",
+    t.case(
+        "frequency -3/1024 takes step 2",
         frequencies::step_is(-3.0 / 1024.0, 2),
     );
-    let t = case(
-        t,
-        b"frequencies 1/1024, 5/1024 and 7/1024 take steps 0, 2 and 4",
+    t.case(
+        "frequencies 1/1024, 5/1024 and 7/1024 take steps 0, 2 and 4",
         frequencies::halves_are_even(),
     );
-    let t = case(
-        t,
-        b"the singles beside 1/1024 and 3/1024 take the nearest step",
+    t.case(
+        "the singles beside 1/1024 and 3/1024 take the nearest step",
         frequencies::beside_a_half(),
     );
-    let t = case(
-        t,
-        b"the last frequency below 16,384 has cosine 0",
+    t.case(
+        "the last frequency below 16,384 has cosine 0",
         frequencies::last_below_the_quarter(),
     );
-    let t = case(t, b"frequency 65,536 is taken", frequencies::taken(65536.0));
-    let t = case(
-        t,
-        b"frequency -65,536 is taken",
-        frequencies::taken(-65536.0),
-    );
-    let t = case(
-        t,
-        b"the next frequency above 65,536 is refused with 6 and ten zeros",
+    t.case("frequency 65,536 is taken", frequencies::taken(65536.0));
+    t.case("frequency -65,536 is taken", frequencies::taken(-65536.0));
+    t.case(
+        "the next frequency above 65,536 is refused with 6 and ten zeros",
         frequencies::refused(65536.0078125),
     );
-    case(
-        t,
-        b"the next frequency below -65,536 is refused with 6 and ten zeros",
+    t.case(
+        "the next frequency below -65,536 is refused with 6 and ten zeros",
         frequencies::refused(-65536.0078125),
-    )
+    );
 }
 
-fn stage_cases(tally: Tally) -> Tally {
-    let t = case(
-        tally,
-        b"equal frequencies have weights of 1",
+fn stage_cases(t: &mut Tally<impl Print>) {
+    t.case(
+        "equal frequencies have weights of 1",
         stages::equal_weights(),
     );
-    let t = case(
-        t,
-        b"179 samples are refused with 1 and zeros",
+    t.case(
+        "179 samples are refused with 1 and zeros",
         stages::short_window(),
     );
-    let t = case(
-        t,
-        b"ratio 133 at lag 36 loses to 100 at lag 18",
+    t.case(
+        "ratio 133 at lag 36 loses to 100 at lag 18",
         !stages::takes_over(36, 133.0),
     );
-    let t = case(
-        t,
-        b"ratio 134 at lag 36 wins over 100 at lag 18",
+    t.case(
+        "ratio 134 at lag 36 wins over 100 at lag 18",
         stages::takes_over(36, 134.0),
     );
-    let t = case(
-        t,
-        b"ratio 101 at lag 35 wins over 100 at lag 18",
+    t.case(
+        "ratio 101 at lag 35 wins over 100 at lag 18",
         stages::takes_over(35, 101.0),
     );
-    let t = case(
-        t,
-        b"bare filter, lag 18, factor 0.25: 1, -0.25 at sample 18, and 58 zeros",
+    t.case(
+        "bare filter, lag 18, factor 0.25: 1, -0.25 at sample 18, and 58 zeros",
         stages::bare_filter(),
     );
-    case(
-        t,
-        b"lag 146 is refused with 4, and the filter's memory is as it was",
+    t.case(
+        "lag 146 is refused with 4, and the filter's memory is as it was",
         stages::memory_kept(),
-    )
+    );
 }
 
-fn narrowing_cases(tally: Tally) -> Tally {
-    let t = case(tally, b"a NaN narrows to a NaN", narrowing::keeps_nan());
-    let t = case(
-        t,
-        b"infinity narrows to infinity",
-        narrowing::keeps_infinity(),
-    );
-    let t = case(t, b"2^128 narrows to infinity", narrowing::overflows());
-    let t = case(
-        t,
-        b"ties narrow to the even single",
-        narrowing::ties_to_even(),
-    );
-    let t = case(
-        t,
-        b"2^-149, the smallest single, is kept",
+fn narrowing_cases(t: &mut Tally<impl Print>) {
+    t.case("a NaN narrows to a NaN", narrowing::keeps_nan());
+    t.case("infinity narrows to infinity", narrowing::keeps_infinity());
+    t.case("2^128 narrows to infinity", narrowing::overflows());
+    t.case("ties narrow to the even single", narrowing::ties_to_even());
+    t.case(
+        "2^-149, the smallest single, is kept",
         narrowing::keeps_subnormals(),
     );
-    case(t, b"-0 narrows to -0", narrowing::keeps_minus_zero())
+    t.case("-0 narrows to -0", narrowing::keeps_minus_zero());
 }
 
-fn step_cases(tally: Tally) -> Tally {
-    let t = case(tally, b"cosine 2 takes step 0", cosines::step_is(2.0, 0));
-    let t = case(
-        t,
-        b"cosine 0 takes step 2^23",
-        cosines::step_is(0.0, 8388608),
-    );
-    let t = case(
-        t,
-        b"cosine -1 takes step 2^24",
+fn step_cases(t: &mut Tally<impl Print>) {
+    t.case("cosine 2 takes step 0", cosines::step_is(2.0, 0));
+    t.case("cosine 0 takes step 2^23", cosines::step_is(0.0, 8388608));
+    t.case(
+        "cosine -1 takes step 2^24",
         cosines::step_is(-1.0, 16777216),
     );
-    let t = case(
-        t,
-        b"the cosine of entry 1,302 takes step 1,302 x 4,096",
+    t.case(
+        "the cosine of entry 1,302 takes step 1,302 x 4,096",
         cosines::steps_of_an_entry(),
     );
-    case(t, b"a NaN takes step 2^24", cosines::step_of_nan())
+    t.case("a NaN takes step 2^24", cosines::step_of_nan());
 }
 
 // 0x3f80_0000 is 1, 0xbf80_0000 is −1.
-fn cosine_cases(tally: Tally) -> Tally {
-    let t = case(
-        tally,
-        b"step 0 has cosine 1",
-        cosines::cosine_is(0, 0x3f80_0000),
-    );
-    let t = case(t, b"step 2^23 has cosine 0", cosines::cosine_is(8388608, 0));
-    let t = case(
-        t,
-        b"step 2^24 has cosine -1",
+fn cosine_cases(t: &mut Tally<impl Print>) {
+    t.case("step 0 has cosine 1", cosines::cosine_is(0, 0x3f80_0000));
+    t.case("step 2^23 has cosine 0", cosines::cosine_is(8388608, 0));
+    t.case(
+        "step 2^24 has cosine -1",
         cosines::cosine_is(16777216, 0xbf80_0000),
     );
-    let t = case(
-        t,
-        b"step 3 x 2^23 has cosine 0",
+    t.case(
+        "step 3 x 2^23 has cosine 0",
         cosines::cosine_is(25165824, 0),
     );
-    let t = case(
-        t,
-        b"step 2^25 has cosine 1",
+    t.case(
+        "step 2^25 has cosine 1",
         cosines::cosine_is(33554432, 0x3f80_0000),
     );
-    let t = case(
-        t,
-        b"step 5 has an angle by the single pi",
+    t.case(
+        "step 5 has an angle by the single pi",
         cosines::angle_of_step_5(),
     );
-    let t = case(
-        t,
-        b"angle pi/2^25 takes step 0, and the next single step 1",
+    t.case(
+        "angle pi/2^25 takes step 0, and the next single step 1",
         cosines::angle_halfway(),
     );
-    case(
-        t,
-        b"steps 3, 10,680,706 and 10,680,707 come back from their angles",
+    t.case(
+        "steps 3, 10,680,706 and 10,680,707 come back from their angles",
         cosines::angle_back(),
-    )
+    );
 }
 
-fn frame_cases(tally: Tally) -> Tally {
-    let t = case(
-        tally,
-        b"a filter without ten lines after the resting set has index 0, and the set rests",
+fn frame_cases(t: &mut Tally<impl Print>) {
+    t.case(
+        "a filter without ten lines after the resting set has index 0, and the set rests",
         frames::at_rest(),
     );
-    let t = case(
-        t,
-        b"a filter without ten lines after another set has index 12,812,705",
+    t.case(
+        "a filter without ten lines after another set has index 12,812,705",
         frames::after_a_set(),
     );
-    let t = case(
-        t,
-        b"a frame of zeros has index 11,767,742, lags 18 and 18 and no shaping",
+    t.case(
+        "a frame of zeros has index 11,767,742, lags 18 and 18 and no shaping",
         frames::zeros(),
     );
-    let t = case(
-        t,
-        b"a second frame of zeros has index 11,505,325, lags 18 and 18 and no shaping",
+    t.case(
+        "a second frame of zeros has index 11,505,325, lags 18 and 18 and no shaping",
         frames::zeros_again(),
     );
-    let t = case(
-        t,
-        b"a frame of a parabola modulo 2,001 has index 12,876,221, lags 92 and 44 and no shaping",
+    t.case(
+        "a frame of a parabola modulo 2,001 has index 12,876,221, lags 92 and 44 and no shaping",
         frames::of_parabola(),
     );
-    let t = case(
-        t,
-        b"a frame of pulses 40 samples apart has index 14,390,718, lags 40 and 40 and shaping at 40",
+    t.case(
+        "a frame of pulses 40 samples apart has index 14,390,718, lags 40 and 40 and shaping at 40",
         frames::of_pulses(),
     );
-    let t = case(
-        t,
-        b"a frame of a square of seven samples has index 7,613,739, lags 28 and 28 and shaping at 28",
+    t.case(
+        "a frame of a square of seven samples has index 7,613,739, lags 28 and 28 and shaping at 28",
         frames::of_square(),
     );
-    frame_refusals(t)
+    frame_refusals(t);
 }
 
-fn frame_refusals(tally: Tally) -> Tally {
-    let t = case(
-        tally,
-        b"359 and 361 samples are refused with 8, whatever else is wrong",
+fn frame_refusals(t: &mut Tally<impl Print>) {
+    t.case(
+        "359 and 361 samples are refused with 8, whatever else is wrong",
         frames::length_first(),
     );
-    let t = case(
-        t,
-        b"a set of 70,000 is refused with 6 before a spacing that is a NaN",
+    t.case(
+        "a set of 70,000 is refused with 6 before a spacing that is a NaN",
         frames::set_before_spacing(),
     );
-    let t = case(
-        t,
-        b"spacing 401 is refused with 6 before cosines that are NaNs",
+    t.case(
+        "spacing 401 is refused with 6 before cosines that are NaNs",
         frames::spacing_before_cosines(),
     );
-    let t = case(t, b"spacing -0 is taken", frames::minus_zero_taken());
-    let t = case(
-        t,
-        b"an infinity in the weighted speech before the frame is refused with 5",
+    t.case("spacing -0 is taken", frames::minus_zero_taken());
+    t.case(
+        "an infinity in the weighted speech before the frame is refused with 5",
         frames::infinite_past(),
     );
-    case(
-        t,
-        b"a refused frame is zeros, and the coder's memories are as they were",
+    t.case(
+        "a refused frame is zeros, and the coder's memories are as they were",
         frames::refusal_keeps(),
-    )
+    );
 }
 
-fn filter_cases(tally: Tally) -> Tally {
-    let t = case(
-        tally,
-        b"an impulse over a history of 1 to 145 at lag 145: 0.75, -0.5, -0.75, -1, .., and a history of 61 to 145, 1 and zeros",
+fn filter_cases(t: &mut Tally<impl Print>) {
+    t.case(
+        "an impulse over a history of 1 to 145 at lag 145: 0.75, -0.5, -0.75, -1, .., and a history of 61 to 145, 1 and zeros",
         filters::oldest_input(),
     );
-    let t = case(
-        t,
-        b"the same at lag 85: -14.25, -15.5, -15.75, -16, ..",
+    t.case(
+        "the same at lag 85: -14.25, -15.5, -15.75, -16, ..",
         filters::input_at_60(),
     );
-    case(
-        t,
-        b"memories of 1 to 10, 11 to 20 and 21 to 30, and no input: -3, 0.875, -0.28125, 0.1015625, ..",
+    t.case(
+        "memories of 1 to 10, 11 to 20 and 21 to 30, and no input: -3, 0.875, -0.28125, 0.1015625, ..",
         filters::three_memories(),
-    )
+    );
 }
 
-fn index_cases(tally: Tally) -> Tally {
-    let t = case(
-        tally,
-        b"66,051 splits to 1, 2 and 3",
-        indices::splits(66051, 1, 2, 3),
+fn index_cases(t: &mut Tally<impl Print>) {
+    t.case(
+        "66,051 splits to 1, 2 and 3",
+        indices::splits(66051, [1, 2, 3]),
     );
-    let t = case(
-        t,
-        b"4,278,256,131 is refused with 9, and its rows are zeros",
+    t.case(
+        "4,278,256,131 is refused with 9, and its rows are zeros",
         indices::split_refused(4278256131),
     );
-    let t = case(
-        t,
-        b"16,777,215 splits to 255, 255 and 255",
-        indices::splits(16777215, 255, 255, 255),
+    t.case(
+        "16,777,215 splits to 255, 255 and 255",
+        indices::splits(16777215, [255, 255, 255]),
     );
-    let t = case(
-        t,
-        b"16,777,216 is refused with 9, and its rows are zeros",
+    t.case(
+        "16,777,216 is refused with 9, and its rows are zeros",
         indices::split_refused(16777216),
     );
-    let t = case(
-        t,
-        b"index 16,777,215 decodes to 4,824, 9,514, 13,702, 14,841, 19,206, 21,407, 22,675, 25,777, 28,051, 29,036",
+    t.case(
+        "index 16,777,215 decodes to 4,824, 9,514, 13,702, 14,841, 19,206, 21,407, 22,675, 25,777, 28,051, 29,036",
         indices::last_index(),
     );
-    let t = case(
-        t,
-        b"50,397,699, which is 66,051 with its length byte on top, is refused with 9 and ten zeros",
+    t.case(
+        "50,397,699, which is 66,051 with its length byte on top, is refused with 9 and ten zeros",
         indices::decode_refused(50397699),
     );
-    let t = case(
-        t,
-        b"16,777,216 is refused with 9 before a previous set with a NaN, or of 70,000s",
-        indices::after_unfit_sets(16777216, 9, 9),
+    t.case(
+        "16,777,216 is refused with 9 before a previous set with a NaN, or of 70,000s",
+        indices::after_unfit_sets(16777216, Refusal::LongIndex, Refusal::LongIndex),
     );
-    let t = case(
-        t,
-        b"after 16,777,215 such a set is refused with 5, or with 6",
-        indices::after_unfit_sets(16777215, 5, 6),
+    t.case(
+        "after 16,777,215 such a set is refused with 5, or with 6",
+        indices::after_unfit_sets(16777215, Refusal::NotFinite, Refusal::OutOfRange),
     );
-    case(
-        t,
-        b"over lent rows 16,777,216 is refused with 9, and 66,051 decodes",
+    t.case(
+        "over lent rows 16,777,216 is refused with 9, and 66,051 decodes",
         indices::over_lent_rows(),
-    )
+    );
 }
 
-fn file_cases(tally: Tally) -> Tally {
-    let t = case(
-        tally,
-        b"the built-in rows' file has 5,128 bytes of FNV 17842c971b3fa02a, and loads to them",
+fn file_cases(t: &mut Tally<impl Print>) {
+    t.case(
+        "the built-in rows' file has 5,128 bytes of FNV 17842c971b3fa02a, and loads to them",
         rows::built_in_file(),
     );
-    let t = case(
-        t,
-        b"behind 27,640 bytes of notes, and behind 3, it loads to them too",
+    t.case(
+        "behind 27,640 bytes of notes, and behind 3, it loads to them too",
         rows::behind_notes(),
     );
-    let t = case(
-        t,
-        b"behind 27,641 it is refused with 10, and the buffer is as it was",
+    t.case(
+        "behind 27,641 it is refused with 10, and the buffer is as it was",
         rows::notes_too_long(),
     );
-    let t = case(
-        t,
-        b"of two files behind each other the last one counts",
+    t.case(
+        "of two files behind each other the last one counts",
         rows::last_file_counts(),
     );
-    let t = case(
-        t,
-        b"less a byte, or with one behind it, a file is refused with 10",
+    t.case(
+        "less a byte, or with one behind it, a file is refused with 10",
         rows::cut_and_lengthened(),
     );
-    let t = case(
-        t,
-        b"so are the count before the distance, and a trailer with the high byte first",
+    t.case(
+        "so are the count before the distance, and a trailer with the high byte first",
         rows::other_trailers(),
     );
-    let t = case(
-        t,
-        b"the file of R has FNV 5d0a77e237208297, and loads to R",
+    t.case(
+        "the file of R has FNV 5d0a77e237208297, and loads to R",
         rows::other_file(),
     );
-    let t = case(
-        t,
-        b"a last number of 8,192 is taken",
-        rows::taken_last(8192),
-    );
-    let t = case(
-        t,
-        b"a last number of -8,192 is taken",
-        rows::taken_last(-8192),
-    );
-    let t = case(
-        t,
-        b"a last number of 8,193 is refused with 11, and the buffer is as it was",
+    t.case("a last number of 8,192 is taken", rows::taken_last(8192));
+    t.case("a last number of -8,192 is taken", rows::taken_last(-8192));
+    t.case(
+        "a last number of 8,193 is refused with 11, and the buffer is as it was",
         rows::refused_last(8193),
     );
-    let t = case(
-        t,
-        b"a last number of -8,193 is refused with 11, and the buffer is as it was",
+    t.case(
+        "a last number of -8,193 is refused with 11, and the buffer is as it was",
         rows::refused_last(-8193),
     );
-    let t = case(
-        t,
-        b"another trailer is refused with 10 before a number of 8,193",
+    t.case(
+        "another trailer is refused with 10 before a number of 8,193",
         rows::form_first(),
     );
-    case(
-        t,
-        b"a buffer of 2,559 places is refused with 1, whatever the file",
+    t.case(
+        "a buffer of 2,559 places is refused with 1, whatever the file",
         rows::buffer_first(),
-    )
+    );
 }
 
-fn row_cases(tally: Tally) -> Tally {
-    let t = case(
-        tally,
-        b"row 0 of band 0 of R is -8192 -273 7646, at place 0",
+fn row_cases(t: &mut Tally<impl Print>) {
+    t.case(
+        "row 0 of band 0 of R is -8192 -273 7646, at place 0",
         rows::first_row(),
     );
-    let t = case(
-        t,
-        b"row 255 of band 1 of R is 6735 -1731 6188, at place 1,533",
+    t.case(
+        "row 255 of band 1 of R is 6735 -1731 6188, at place 1,533",
         rows::last_of_band_1(),
     );
-    let t = case(
-        t,
-        b"row 255 of band 2 of R is -2703 5216 -3250 4669, at place 2,556",
+    t.case(
+        "row 255 of band 2 of R is -2703 5216 -3250 4669, at place 2,556",
         rows::last_of_band_2(),
     );
-    let t = case(
-        t,
-        b"a row of band 3 is refused with 2, an empty part",
+    t.case(
+        "a row of band 3 is refused with 2, an empty part",
         rows::no_such_row(3, 0),
     );
-    let t = case(
-        t,
-        b"row 256 of band 0 is refused with 2, an empty part",
+    t.case(
+        "row 256 of band 0 is refused with 2, an empty part",
         rows::no_such_row(0, 256),
     );
-    let t = case(
-        t,
-        b"of 2,559 numbers a row is refused with 1 before the band is looked at, an empty part",
+    t.case(
+        "of 2,559 numbers a row is refused with 1 before the band is looked at, an empty part",
         rows::no_row_of_2559(),
     );
-    let t = case(
-        t,
-        b"over R the case's set has index 16,182,995, and the set that it decodes to",
+    t.case(
+        "over R the case's set has index 16,182,995, and the set that it decodes to",
         rows::quantised(),
     );
-    let t = case(
-        t,
-        b"over the built-in rows, lent, it has index 66,051",
+    t.case(
+        "over the built-in rows, lent, it has index 66,051",
         rows::built_in_lent(),
     );
-    let t = case(
-        t,
-        b"over 2,559 numbers all else is refused with 1 and zeros",
+    t.case(
+        "over 2,559 numbers all else is refused with 1 and zeros",
         rows::length_first(),
     );
-    let t = case(
-        t,
-        b"over R a NaN is refused with 5, 70,000 with 6 and a longer word with 9, in their order",
+    t.case(
+        "over R a NaN is refused with 5, 70,000 with 6 and a longer word with 9, in their order",
         rows::refused_in_order(),
     );
-    let t = case(
-        t,
-        b"over rows of 16,384, which no load takes, the second set is 22,528 off; over 32,767 the third index is refused with 6",
+    t.case(
+        "over rows of 16,384, which no load takes, the second set is 22,528 off; over 32,767 the third index is refused with 6",
         rows::beyond_the_check(),
     );
-    let t = case(
-        t,
-        b"a frame over the built-in rows, lent, is the built-in frame, and over R another",
+    t.case(
+        "a frame over the built-in rows, lent, is the built-in frame, and over R another",
         rows::frame_lent(),
     );
-    case(
-        t,
-        b"a frame over 2,559 numbers is refused with 1, and the memories are as they were",
+    t.case(
+        "a frame over 2,559 numbers is refused with 1, and the memories are as they were",
         rows::frame_refused(),
-    )
+    );
 }
 
-fn main() {
-    let first = frequency_cases(Tally {
-        passed: 0,
-        failed: 0,
-    });
-    let second = stage_cases(first);
-    let third = narrowing_cases(second);
-    let fourth = step_cases(third);
-    let fifth = cosine_cases(fourth);
-    let sixth = frame_cases(fifth);
-    let seventh = filter_cases(sixth);
-    let eighth = index_cases(seventh);
-    let ninth = file_cases(eighth);
-    let tally = row_cases(ninth);
-    io::print_decimal(STDOUT_FILENO, tally.passed);
-    io::write_all(STDOUT_FILENO, b" passed, ");
-    io::print_decimal(STDOUT_FILENO, tally.failed);
-    io::write_all(STDOUT_FILENO, b" failed\n");
+fn main(rt: HostRuntime) {
+    let mut tally = Tally::new(&rt);
+    frequency_cases(&mut tally);
+    stage_cases(&mut tally);
+    narrowing_cases(&mut tally);
+    step_cases(&mut tally);
+    cosine_cases(&mut tally);
+    frame_cases(&mut tally);
+    filter_cases(&mut tally);
+    index_cases(&mut tally);
+    file_cases(&mut tally);
+    row_cases(&mut tally);
+    tally.finish();
 }

@@ -22,7 +22,7 @@ fn main() {
     let found = sources::tables(&folder).unwrap_or_else(|why| fail(&why));
     let quarter: Vec<_> = found.iter().filter(|table| table.numbers.len() == 2049).collect();
     let [table] = quarter[..] else {
-        fail(&format!("{}: {} constant arrays of 2,049 numbers, and one is wanted", folder.display(), quarter.len()));
+        fail(&format!("{}: {} constant or static arrays of 2,049 numbers, and one is wanted", folder.display(), quarter.len()));
     };
     let entries = rule::quarter().unwrap_or_else(|why| fail(&why));
     let mut wrong = 0;

@@ -11,7 +11,7 @@ tables: compare every number of the tables in crates/spec_tables with the publis
   --folder DIR   where the tables are (crates/spec_tables/src of the repository around this folder)
   --help         this text
 
-The tables are constant arrays of the Rust's names in the folder's .rt files. The codebooks of the three bands stand one
+The tables are constant or static arrays of the Rust's names in the folder's .rt files. The codebooks of the three bands stand one
 after the other as LSP_CODEBOOK. The set that g7231_resting_set gives is held to the Rust's too.
 Exit status: 0 all agree, or the Rust is not at hand (it then prints `not compared`); 1 one differs; 2 bad usage.
 ";

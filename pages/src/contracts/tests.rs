@@ -239,6 +239,32 @@ fn a_program_has_no_operations() {
     assert!(library.iter().any(|fault| fault.contains("there are 2 public functions")), "{library:?}");
 }
 
+/// The sample where `halve` answers a `Result`, by a view of its answer, and what is said of it.
+fn seen(view: &str, import: &str) -> Vec<String> {
+    let page = altering(SAMPLE, "`result ≡ halved (pair a way) mem`", &format!("`{view} ≡ halved (pair a way) mem`"))(SAMPLE);
+    let clause = format!("ensures {{ {view} ≡ halved (pair a.now way) mem }}");
+    let is = "ensures { result ≡ halved (pair a.now way) mem }";
+    let operations = altering(OPERATIONS, is, &clause)(OPERATIONS);
+    faults(&page, TABLE, &format!("{import}\n{operations}"), &library(), EXPORTS)
+}
+
+#[test]
+fn an_answer_that_is_a_result() {
+    let import = "ghost use Rattle.half.specs.Half.{as_halved};";
+    assert_eq!(seen("as_halved result", import), [""; 0]);
+    assert_eq!(seen("as_halved mem result", import), [""; 0]);
+    let refused = |said: Vec<String>| {
+        let wanted = "no equation for the result";
+        assert!(said.iter().any(|fault| fault.contains(wanted)), "{said:?}");
+    };
+    // by a name that no reader has read, by what is no name of specs/, and of something that is not given
+    refused(seen("as_halved result", "ghost use Rattle.half.proofs.Half.{as_halved};"));
+    refused(seen("as_halved result", "ghost use Rattle.half.specs.inner.Half.{as_halved};"));
+    refused(seen("mem result", import));
+    refused(seen("as_halved 0 result", import));
+    refused(seen("as_halved result mem", import));
+}
+
 #[test]
 fn an_operation_that_says_less() {
     let is = "result ≡ halved (pair a.now way) mem";

@@ -1,20 +1,14 @@
--- `convert::lsp_freq_to_cosines` meets its contract: the check's number is the definition's, so each return is the
--- refusal with it, or the answer.
--- Assumes nothing.
-use lib.Ieee.{round, of_bits}
-use Rattle.float.specs.Single.{single}
-use Rattle.float.proofs.Refusal.{answer_refused, answer_done, lines_done, shown_bounded}
-use Rattle.convert.specs.Convert.{freq_to_cosines}
+-- `convert::lsp_freq_to_cosines` meets its contract: each call gave the cosine of its frequency. Assumes nothing.
+use Rattle.std.proofs.Common.{rules}
+use Rattle.float.specs.Lines.{refused_lines}
+use Rattle.float.proofs.Refusal.{went_on, lines_done}
+use Rattle.cosine.proofs.Mapped.{mapped}
+use Rattle.convert.specs.Convert.{freq_to_cosines, cosine_of}
+use Rattle.convert.proofs.Bound.{bounded}
 use Rattle.convert.proofs.lsp_freq_to_cosines.Goals as goal
 
-pub returns-then-status-ne0 : goal.returns-then-status-ne0
-unfolding freq_to_cosines single round of_bits
-returns-then-status-ne0 c = search answer_refused
-
-pub cosines_in-lines-requires : goal.cosines_in-lines-requires
-unfolding freq_to_cosines single round of_bits
-cosines_in-lines-requires c = search shown_bounded
-
 pub returns : goal.returns
-unfolding freq_to_cosines single round of_bits
-returns c = search (answer_done, lines_done)
+unfolding freq_to_cosines
+returns c =
+    went_on refused_lines (search (bounded, rules))
+    (lines_done (mapped cosine_of (λ p q x y k. search rules) (search rules) c.map.ensures.items))

@@ -1,10 +1,7 @@
--- `ends_apart::steps_apart` meets its contract: after i turns it is the largest of i distances. Assumes nothing.
-use Rattle.std.proofs.Common.{◌-◌}
+-- `ends_apart::steps_apart` meets its contract: so far it is the largest of the distances. Assumes nothing.
+use Rattle.std.proofs.Common.{length}
 use Rattle.ends_apart.proofs.Counting.{Gone}
 use Rattle.ends_apart.proofs.steps_apart.Given as goal
 
-abbrev pub invariant-loop-i : goal.invariant-loop-i
-invariant-loop-i l = Gone l.x l.y l.i l.most
-
-abbrev pub decreases-loop-i : goal.decreases-loop-i
-decreases-loop-i l = 10 - l.i
+abbrev pub invariant-loop-a : goal.invariant-loop-a
+invariant-loop-a l = Gone l.fn.x l.fn.y (length l.yielded) l.most

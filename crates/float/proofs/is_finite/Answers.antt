@@ -1,17 +1,15 @@
--- `float::is_finite` meets its contract: at each kind of value the two tests against the infinities say whether it is finite. Assumes nothing.
-use mathlib.Core.Path.{◌≡◌, refl}
-use mathlib.Core.Bool.{true, false, ◌&&◌}
-use lib.Ieee.{Float, nan, inf, fin, lt, neg, div, of_bits}
+-- `float::is_finite` meets its contract: the library's test at each kind of value. Assumes nothing.
+use Rattle.std.proofs.Common.{◌≡◌, refl, ◌∙◌}
+use lib.Ieee.{Float, nan, inf, fin}
 use lib.Ieee.Scale.{finite}
+use Rattle.std.specs.Float.{float_is_finite}
 use Rattle.float.proofs.is_finite.Goals as goal
 
-tests : (x : Float) → lt (inf true) x && lt x (inf false) ≡ finite x
-unfolding lt
-tests nan = refl
-tests (inf true) = refl
-tests (inf false) = refl
-tests (fin s m e) = refl
+same : (x : Float) → float_is_finite x ≡ finite x
+unfolding float_is_finite
+same nan = refl
+same (inf s) = refl
+same (fin s m e) = refl
 
 pub returns : goal.returns
-unfolding div neg of_bits
-returns c = tests c.args.x
+returns c = c.is_finite.ensures.value ∙ same c.args.x

@@ -3,15 +3,12 @@
 -- Added by design. Assumes nothing.
 use Rattle.std.specs.Prelude.{List, [], ◌∷◌, Float}
 use Rattle.float.specs.Refusal.{first_of, answer}
-use Rattle.spec_lsp.specs.declared.quantise.Quantised.{Quantised}
-use Rattle.frame_parts.specs.declared.Filters.{Filters}
-use Rattle.spectrum.specs.declared.Spectrum.{Spectrum}
-use Rattle.spectrum.specs.inner.Spectrum.{spectrum}
-use Rattle.voice.specs.declared.Voice.{Voice}
-use Rattle.voice.specs.inner.Voice.{voice}
+use Rattle.spec_lsp.specs.Quantise.{Quantised}
+use Rattle.frame_parts.specs.Four.{Filters}
+use Rattle.spectrum.specs.inner.Spectrum.{Spectrum, spectrum}
+use Rattle.voice.specs.inner.Voice.{Voice, voice}
 use Rattle.frame.specs.declared.Coder.{Coder}
-use Rattle.frame.specs.declared.Frame.{Frame}
-use Rattle.frame.specs.Frame.{refusal}
+use Rattle.frame.specs.Frame.{Frame, refusal}
 
 abbrev pub finished : Spectrum → Voice → Frame
 finished s v = record {

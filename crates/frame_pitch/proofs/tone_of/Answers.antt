@@ -1,42 +1,43 @@
 -- `frame_pitch::tone_of` meets its contract: a sample that is not finite refuses both stages, and where there is none each half is as
 -- defined. Assumes nothing.
 use borrow.Author.Rules.{rules}
-use borrow.Author.Tests.{not-true, not-false}
-use mathlib.Core.Path.{◌≡◌, sym, ◌∙◌}
-use mathlib.Core.Bool.{Bool, true, false, not}
+use native.Mathlib.Omega.{arith}
+use mathlib.Core.Path.{◌≡◌, refl, sym, ◌∙◌}
+use mathlib.Core.Bool.{Bool, true, false}
 use mathlib.Core.List.{List, [], ◌∷◌}
 use lib.Ieee.{Float}
 use lib.Ieee.Scale.{finite}
 use lib.ListN.{length}
-use Rattle.float.specs.Refusal.{all}
+use Rattle.float.specs.Refusal.{all, first, answer}
+use Rattle.float.specs.Finite.{not_finite}
+use Rattle.float.proofs.Refusal.{passed_on, went_on, seen_finite}
 use Rattle.frame_pitch.specs.declared.HalfTone.{HalfTone}
-use Rattle.frame_pitch.specs.declared.Tone.{Tone}
-use Rattle.frame_pitch.specs.inner.Tone.{half_tone, refused_tone, tone}
+use Rattle.frame_pitch.specs.inner.Tone.{Tone, half_tone, refused_tone, tone}
 use Rattle.frame_pitch.proofs.Stages.{half_shown, tone_done, tone_refused}
 use Rattle.frame_pitch.proofs.tone_of.Goals as goal
 
--- what the look at the samples has shown
-bad : (w : List Float) (t : Bool) → t ≡ all finite w → not t ≡ true → all finite w ≡ false
-bad w t e h = sym e ∙ not-true t h
+-- as the code makes them: the test of the samples, and then both halves
+abbrev joined : HalfTone → HalfTone → Tone
+joined a b = record { status = 0; lags = a.lag ∷ b.lag ∷ []; settings = a.early ∷ a.late ∷ b.early ∷ b.late ∷ [] }
 
-good : (w : List Float) (t : Bool) → t ≡ all finite w → not t ≡ false → all finite w ≡ true
-good w t e h = sym e ∙ not-false t h
+one_test : (w : List Float) → length w ≡ 385 →
+    answer (first ((5, not_finite w) ∷ [])) refused_tone (joined (half_tone w 0) (half_tone w 1)) ≡ tone w
+one_test w long = go (all finite w) refl
+  where
+    go : (b : Bool) → all finite w ≡ b → answer (first ((5, not_finite w) ∷ [])) refused_tone (joined (half_tone w 0) (half_tone w 1)) ≡ tone w
+    go true e = rw e (sym (tone_done w long e))
+    go false e = rw e (sym (tone_refused w long e))
 
-refused_as_defined : (w : List Float) (r : Tone) → length w ≡ 385 → all finite w ≡ false → r ≡ refused_tone 5 → r ≡ tone w
-refused_as_defined w r long h e = e ∙ sym (tone_refused w long h)
-
-done_as_defined : (w : List Float) (a b : HalfTone) → length w ≡ 385 → all finite w ≡ true → a ≡ half_tone w 0 → b ≡ half_tone w 1 →
-    ◌≡◌ {A = Tone} (record { status = 0; lags = a.lag ∷ b.lag ∷ []; settings = a.early ∷ a.late ∷ b.early ∷ b.late ∷ [] }) (tone w)
-done_as_defined w a b long h p q = rw (p, q) (sym (tone_done w long h))
-
-pub returns-then-not-fine : goal.returns-then-not-fine
-returns-then-not-fine c = search (refused_as_defined, bad)
+pub returns-in_err-check_finite : goal.returns-in_err-check_finite
+returns-in_err-check_finite c =
+    passed_on _ _ _ _ _ c.from_residual.ensures.1 c.in_err-check_finite.ensures ∙ one_test c.args.speech.now (search rules)
 
 pub half_tone-a-requires : goal.half_tone-a-requires
-half_tone-a-requires c = search (rules, half_shown, good)
+half_tone-a-requires c = half_shown _ (search rules) (seen_finite _ _ c.in_ok-check_finite.ensures) 0 (omega arith)
 
 pub half_tone-b-requires : goal.half_tone-b-requires
-half_tone-b-requires c = search (rules, half_shown, good)
+half_tone-b-requires c = half_shown _ (search rules) (seen_finite _ _ c.in_ok-check_finite.ensures) 1 (omega arith)
 
 pub returns : goal.returns
-returns c = search (done_as_defined, good)
+returns c =
+    went_on refused_tone c.in_ok-check_finite.ensures (rw (c.half_tone-a.ensures, c.half_tone-b.ensures)) ∙ one_test c.args.speech.now (search rules)

@@ -3,12 +3,9 @@ use Prim.Native.Nat.{◌+◌, ◌-◌}
 use lib.Ieee.{nan}
 use lib.ListN.{get_or}
 use Rattle.float.proofs.Loop.{Went}
-use Rattle.lags.specs.Search.{offered, preferred}
+use Rattle.lags.specs.Search.{as_best, offered, preferred}
 use Rattle.lags.proofs.compete.Given as goal
 
 abbrev pub invariant-loop-lag : goal.invariant-loop-lag
 invariant-loop-lag l =
-    Went l.from l.to (λ j x. offered preferred x j (get_or l.sums.cross (l.first + 7 - j) nan) (get_or l.sums.power (l.first + 7 - j) nan)) l.initial.b l.lag l.b
-
-abbrev pub decreases-loop-lag : goal.decreases-loop-lag
-decreases-loop-lag l = l.to - l.lag
+    Went l.from l.to (λ j x. offered preferred x j (get_or l.sums.cross (l.first + 7 - j) nan) (get_or l.sums.power (l.first + 7 - j) nan)) (as_best l.fn.best) l.lag (as_best l.b)

@@ -19,6 +19,3 @@ old i k a j = cond (eqb j i) k (get_or a j nan)
 
 abbrev pub invariant-loop-j : goal.invariant-loop-j
 invariant-loop-j l = (1 ≤ l.j) × (l.j ≤ l.i) × (l.out ≡ table 11 (between 1 l.j (new l.i l.k l.a) (old l.i l.k l.a)))
-
-abbrev pub decreases-loop-j : goal.decreases-loop-j
-decreases-loop-j l = l.i - l.j

@@ -13,6 +13,3 @@ term r a i j acc = acc ⊞ get_or a j nan ⊠ get_or r (i - j) nan
 
 abbrev pub invariant-loop-j : goal.invariant-loop-j
 invariant-loop-j l = Went 1 l.i (term l.r l.a l.i) (get_or l.r l.i nan) l.j l.acc
-
-abbrev pub decreases-loop-j : goal.decreases-loop-j
-decreases-loop-j l = l.i - l.j

@@ -1,13 +1,19 @@
 -- The recursion as the code runs it: all ten orders are gone through, and a flag says that it has stopped. That it reaches what
 -- Levinson.antt says: proofs/Orders.antt. §2.4. Assumes nothing.
-use Rattle.std.specs.Prelude.{ℕ, true, false, cond, List, eqb, Float}
+use Rattle.std.specs.Prelude.{ℕ, Bool, true, false, cond, List, eqb, Float}
 use Rattle.std.specs.Float.Ieee.{le}
 use Rattle.float.specs.Loop.{over}
 use Rattle.float.specs.Double.{double}
 use Rattle.float.specs.Narrow.{narrow}
 use Rattle.float.specs.Single.{single}
-use Rattle.lpc.specs.declared.Recursion.{Recursion}
 use Rattle.lpc.specs.Levinson.{reflection, raised, lessened, after, inside}
+
+-- coefficients, error and second reflection so far, and whether it has stopped
+pub record Recursion : Type 0 where
+  pub a : List Float
+  pub error : Float
+  pub k2 : Float
+  pub stopped : Bool
 
 -- order i with its reflection k inside
 unfoldable pub advanced : ℕ → Float → Recursion → Recursion

@@ -1,6 +1,6 @@
 -- `lsp_filter::side_of` meets its contract: up to k the quadratics have been multiplied. Assumes nothing.
 use mathlib.Core.List.{List, ◌∷◌}
-use Prim.Native.Nat.{ℕ, ◌+◌, ◌-◌, ◌*◌}
+use Prim.Native.Nat.{ℕ, ◌+◌, ◌*◌}
 use lib.Ieee.{Float, nan}
 use lib.ListN.{get_or, replicate}
 use Rattle.float.specs.Single.{single}
@@ -16,6 +16,3 @@ one = single 1 1 ∷ replicate 10 (single 0 1)
 
 abbrev pub invariant-loop-k : goal.invariant-loop-k
 invariant-loop-k l = Went 0 5 (turn l.lsp l.s) one l.k l.p
-
-abbrev pub decreases-loop-k : goal.decreases-loop-k
-decreases-loop-k l = 5 - l.k

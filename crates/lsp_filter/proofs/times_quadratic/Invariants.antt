@@ -5,6 +5,3 @@ use Rattle.lsp_filter.proofs.times_quadratic.Given as goal
 
 abbrev pub invariant-loop-i : goal.invariant-loop-i
 invariant-loop-i l = Lowered l.d l.c l.initial.out l.i l.out
-
-abbrev pub decreases-loop-i : goal.decreases-loop-i
-decreases-loop-i l = l.i

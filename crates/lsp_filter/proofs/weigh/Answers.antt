@@ -1,27 +1,18 @@
--- `lsp_filter::weigh` meets its contract: up to i the array holds the weighed cosines. Assumes nothing.
-use mathlib.Core.Path.{◌≡◌, refl, ap}
-use mathlib.Core.List.{List}
-use Prim.Native.Nat.{ℕ}
+-- `lsp_filter::weigh` meets its contract: each place holds its weighed cosine. Assumes nothing.
+use Rattle.std.proofs.Common.{◌≡◌, ℕ, List, get_or, ap, ◌∙◌, rules}
 use lib.Ieee.{Float, nan}
-use lib.ListN.{get_or}
 use Rattle.float.specs.Single.{◌⊕◌, ◌⊗◌}
-use Rattle.float.proofs.Table.{filled_none, filled_more, filled_all}
-use Rattle.lsp_filter.specs.declared.Weights.{Weights}
+use Rattle.float.proofs.FromFn.{from_fn_table}
 use Rattle.lsp_filter.specs.Interpolate.{previous_weight, current_weight, weighed}
 use Rattle.lsp_filter.proofs.weigh.Goals as goal
 
--- what one turn stores
-turn : (choice : ℕ) (w : Weights) (prev cur : List Float) (i : ℕ) →
-    w ≡ record { previous = previous_weight choice; current = current_weight choice } →
-    w.previous ⊗ get_or prev i nan ⊕ w.current ⊗ get_or cur i nan ≡ weighed choice prev cur i
+place : (choice : ℕ) (w : Float × Float) (prev cur : List Float) (i : ℕ) (y : Float) →
+    w ≡ (previous_weight choice, current_weight choice) → y ≡ w.0 ⊗ get_or prev i nan ⊕ w.1 ⊗ get_or cur i nan →
+    y ≡ weighed choice prev cur i
 unfolding weighed
-turn choice w prev cur i e = ap (λ (v : Weights). v.previous ⊗ get_or prev i nan ⊕ v.current ⊗ get_or cur i nan) e
-
-pub loop-i-init : goal.loop-i-init
-loop-i-init c = filled_none 10 _ _ refl
-
-pub loop-i-preserved : goal.loop-i-preserved
-loop-i-preserved c = search (filled_more, turn)
+place choice w prev cur i y e f = f ∙ ap (λ (v : Float × Float). v.0 ⊗ get_or prev i nan ⊕ v.1 ⊗ get_or cur i nan) e
 
 pub returns : goal.returns
-returns c = search filled_all
+returns c =
+    from_fn_table _ (weighed c.args.choice c.args.prev.now c.args.cur.now) _ 10
+    (λ i y q b h. search (place, rules)) _ nan c.from_fn.ensures.items

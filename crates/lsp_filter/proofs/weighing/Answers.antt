@@ -1,18 +1,17 @@
 -- `lsp_filter::weighing` meets its contract: each arm has its choice's weights. Assumes nothing.
 use mathlib.Core.Path.{◌≡◌, refl}
 use Prim.Native.Nat.{ℕ, zero, suc}
-use lib.Ieee.{binary32, of_bits, round}
+use lib.Ieee.{Float, binary32, of_bits, round}
 use Rattle.float.specs.Single.{single}
-use Rattle.lsp_filter.specs.declared.Weights.{Weights}
 use Rattle.lsp_filter.specs.Interpolate.{previous_weight, current_weight}
 use Rattle.lsp_filter.proofs.weighing.Goals as goal
 
 -- the definition's weights, and two constants as the code writes them
-abbrev due : ℕ → Weights
-due choice = record { previous = previous_weight choice; current = current_weight choice }
+abbrev due : ℕ → Float × Float
+due choice = (previous_weight choice, current_weight choice)
 
-abbrev coded : ℕ → ℕ → Weights
-coded p c = record { previous = of_bits binary32 p; current = of_bits binary32 c }
+abbrev coded : ℕ → ℕ → Float × Float
+coded p c = (of_bits binary32 p, of_bits binary32 c)
 
 -- 0.75 and 0.25; 0.5 and 0.5; 0.25 and 0.75; 0 and 1
 none : (choice : ℕ) → choice ≡ 0 → coded 1061158912 1048576000 ≡ due choice

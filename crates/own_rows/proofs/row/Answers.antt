@@ -1,25 +1,12 @@
--- `own_rows::row` meets its contract: the refusal that the check names, or the place. Assumes nothing.
-use borrow.Author.Rules.{rules}
-use mathlib.Core.Path.{◌≡◌, ap, ◌∙◌}
-use Prim.Native.Nat.{ℕ}
-use Rattle.float.proofs.Refusal.{answer_refused, answer_done}
-use Rattle.spec_tables.specs.declared.LspBand.{LspBand}
-use Rattle.own_rows.specs.Row.{band_of, place_in, row_place}
-use Rattle.own_rows.specs.declared.RowPlace.{RowPlace}
-use Rattle.own_rows.proofs.Places.{index_known}
+-- `own_rows::row` meets its contract: each exit is the first refusal due, or the place. Assumes nothing.
+use Rattle.std.proofs.Common.{arith}
+use Rattle.own_rows.proofs.Places.{length_exit, done_exit}
 use Rattle.own_rows.proofs.row.Goals as goal
 
-in_band : (band index : ℕ) {b : LspBand} {p : RowPlace} → b ≡ band_of band → p ≡ place_in b index → p ≡ place_in (band_of band) index
-in_band band index e f = f ∙ ap (λ (b : LspBand). place_in b index) e
-
-pub returns-then-status-ne0 : goal.returns-then-status-ne0
-unfolding row_place
-returns-then-status-ne0 c = search answer_refused
-
-pub place_in-requires : goal.place_in-requires
-unfolding row_place
-place_in-requires c = search index_known
+pub returns-in_err-all_rows : goal.returns-in_err-all_rows
+returns-in_err-all_rows c = length_exit _ _ _ _ _ c.from_residual.ensures.1 c.in_err-all_rows.ensures.status
 
 pub returns : goal.returns
-unfolding row_place
-returns c = search (answer_done, in_band)
+returns c =
+    done_exit _ _ _ _ _ c.in_ok-all_rows.ensures.status c.in_ok-band.ensures.0 c.in_ok-band.ensures.1 c.in-Ok.ensures.1
+    (omega (arith, c.in-Ok.ensures.0, c.in-Ok.ensures.1)) c.place_in.ensures

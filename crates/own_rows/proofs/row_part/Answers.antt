@@ -1,34 +1,18 @@
 -- `own_rows::row_part` meets its contract: what stands at the row's place, and where that is. Assumes nothing.
-use borrow.Author.Rules.{rules}
-use borrow.Rule.Slice.Shared.{by_size}
-use mathlib.Core.Path.{◌≡◌}
-use mathlib.Core.List.{List}
-use Prim.Native.Nat.{ℕ}
-use lib.IntN.{ℤ}
-use Rattle.own_rows.specs.Row.{row_place, row_address}
-use Rattle.own_rows.specs.declared.RowPlace.{RowPlace}
-use Rattle.own_rows.proofs.Places.{end_fits, bytes_fit, place_within, place-holds}
+use Rattle.own_rows.proofs.Places.{made_end, made_bytes, made_within, made_holds, made_none}
 use Rattle.own_rows.proofs.row_part.Goals as goal
 
--- two bytes a number
-stands : (p : ℕ × ℕ) (rows : List ℤ) (band index : ℕ) {at : RowPlace} → at ≡ row_place rows band index →
-    ◌≡◌ {A = ℕ × ℕ} (p.0, by_size 2 at.start p.1) (row_address p rows band index)
-stands p rows band index e = rw e
+pub overflow_add-result : goal.overflow_add-result
+overflow_add-result c = made_end _ _ _ c.in-Ok.ensures
 
-pub overflow_add-end : goal.overflow_add-end
-overflow_add-end c = search end_fits
-
-pub offset_bounds-rows-start : goal.offset_bounds-rows-start
-offset_bounds-rows-start c = search bytes_fit
+pub offset_bounds-rows-place : goal.offset_bounds-rows-place
+offset_bounds-rows-place c = made_bytes _ _ _ c.in-Ok.ensures
 
 pub slice_bounds-result-end : goal.slice_bounds-result-end
-slice_bounds-result-end c = search place_within
+slice_bounds-result-end c = made_within _ _ _ c.in-Ok.ensures
 
-pub returns : goal.returns
-returns c =
-    let args = c.args in
-    let found = c.row-place.ensures in
-    record {
-      part = place-holds args.rows.now args.band args.index found;
-      address = stands args.rows.ref_ptr args.rows.now args.band args.index found;
-    }
+pub returns-in-Ok-clause-part : goal.returns-in-Ok-clause-part
+returns-in-Ok-clause-part c = made_holds _ _ _ c.in-Ok.ensures
+
+pub returns-in-Err-clause-part : goal.returns-in-Err-clause-part
+returns-in-Err-clause-part c = made_none _ _ _ _ c.in-Err.ensures

@@ -1,28 +1,30 @@
--- `roots::refine` meets its contract: after k turns each bracket has been halved k times. Assumes nothing.
-use mathlib.Core.List.{List}
-use Prim.Native.Nat.{ℕ, ◌<◌, zero-le}
-use native.Mathlib.Omega.{arith}
-use lib.Ieee.{Float}
-use Rattle.float.proofs.Loop.{Went, went_none, went_more}
-use Rattle.roots.specs.declared.Bracket.{Bracket}
-use Rattle.roots.specs.inner.Bracket.{bracket_halved}
-use Rattle.roots.proofs.Halvings.{refined, five}
+-- `roots::refine` meets its contract: after some turns each bracket has been halved as often. Assumes nothing.
+use Rattle.std.proofs.Common.{rules}
+use mathlib.Core.Bool.{cond}
+use lib.ListN.{get_or}
+use lib.Ieee.{nan, eq}
+use Rattle.float.specs.Double.{double}
+use Rattle.float.specs.Narrow.{narrow}
+use Rattle.float.proofs.FromFn.{from_fn_table}
+use Rattle.roots.specs.Clenshaw.{value_at}
+use Rattle.roots.specs.inner.Bracket.{bracket, bracket_halved, bracket_middle}
+use Rattle.roots.proofs.Mapped.{mapped_table}
+use Rattle.roots.proofs.Halvings.{unmet, unmade, halved_none, halved_more, halved_all}
 use Rattle.roots.proofs.refine.Goals as goal
 
--- after k turns s is b halved k times
-abbrev Halving : List Float → Bracket → ℕ → Bracket → Type 0
-Halving c b k s = Went 0 50 (λ n. bracket_halved c) b k s
+pub loop-init : goal.loop-init
+loop-init c =
+    halved_none _ _ _
+    (mapped_table _ (λ m. bracket c.args.c.now m.low m.high) _ 5 unmet unmade (λ x y q k. search rules) _ _ c.map-s.ensures.items)
 
-begun : (c : List Float) (b : Bracket) → Halving c b 0 b
-begun c b = went_none 0 50 (λ n. bracket_halved c) b zero-le
-
-pub loop-k-init : goal.loop-k-init
-loop-k-init c = (begun _ _, begun _ _, begun _ _, begun _ _, begun _ _)
-
-pub loop-k-preserved : goal.loop-k-preserved
-loop-k-preserved c =
-    let within : c.loop-k.k < 50 = omega arith in
-    (search went_more, search went_more, search went_more, search went_more, search went_more)
+pub loop-preserved : goal.loop-preserved
+loop-preserved c =
+    halved_more _ _ _ _ _ c.loop-test.true
+    (mapped_table _ (λ b. bracket_halved c.args.c.now b) _ 5 unmade unmade (λ x y q k. search rules) _ _ c.map-s-in-loop.ensures.items)
+    c.loop.invariant
 
 pub returns : goal.returns
-returns c = five _ _ _ _ _ _ (search refined) (search refined) (search refined) (search refined) (search refined)
+returns c =
+    halved_all _ _ _ _ _ c.loop-test.false c.loop.invariant
+    (from_fn_table _ (λ j. narrow (cond (eq (value_at c.args.c.now (get_or c.args.met j unmet).high) (double 0 1)) (get_or c.args.met j unmet).high (bracket_middle (get_or c.loop.s j unmade)))) _ 5
+    (λ i y q h k. search rules) _ nan c.from_fn.ensures.items)

@@ -1,30 +1,39 @@
 -- `roots::scan` meets its contract: the turns of the scan, as the laws of Turns have them. Assumes nothing.
-use mathlib.Core.Path.{◌≡◌}
-use mathlib.Core.List.{List}
-use Prim.Native.Nat.{ℕ}
-use lib.Ieee.{Float}
-use Rattle.roots.specs.declared.Crossings.{Crossings}
-use Rattle.roots.proofs.Turns.{Scanning, scanning_none, scanning_past, scanning_met, scanning_five, scanning_all}
+use Rattle.std.proofs.Common.{rules, ap, List}
+use Rattle.arrayvec.specs.ArrayVec.{ArrayVec}
+use Rattle.roots.specs.declared.Crossing.{Crossing}
+use Rattle.roots.proofs.Turns.{scanning_none, scanning_past, one_found, five_found, few_found, joined, ended, Answered, answered}
 use Rattle.roots.proofs.scan.Goals as goal
-use Rattle.roots.proofs.scan.Goals.{then-found+else-s-ge5, else-found}
+use Rattle.roots.proofs.scan.Goals.{then-is_met+else-is_full, else-is_met, else-loop-i-test, then-loop-i-test+then-is_met+then-is_full}
 
--- the state after an `if` is that of one of its ways
-joined : (c : List Float) (i : ℕ) (s t : Crossings) (high before : Float) → s ≡ t →
-    Scanning c i t high before → Scanning c i s high before
-joined c i s t high before e w = rw e w
+abbrev items : ArrayVec Crossing → List Crossing
+items v = v.items
 
 pub loop-i-init : goal.loop-i-init
-loop-i-init c = search scanning_none
-
-pub returns-then-s-ge5 : goal.returns-then-s-ge5
-returns-then-s-ge5 c = search scanning_five
+loop-i-init c = search (scanning_none, rules)
 
 pub loop-i-preserved : goal.loop-i-preserved
 loop-i-preserved c =
-    elim c.if-found.branch [
-      | then-found+else-s-ge5 w ↦ search (joined, scanning_met)
-      | else-found w ↦ search (joined, scanning_past)
+    elim c.if-is_met.branch [
+      | then-is_met+else-is_full w ↦ joined _ _ _ _ _ _ (ap items w.met-is)
+          (one_found _ _ _ _ _ c.loop-i.invariant _ _ _ c.loop-i-test.true c.point_at-low.ensures c.value_at-here.ensures c.is_met.ensures
+          (search rules) _ w.push.ensures.items (search rules))
+      | else-is_met w ↦ joined _ _ _ _ _ _ (ap items w.met-is)
+          (scanning_past _ _ _ _ _ _ _ _ c.loop-i-test.true c.point_at-low.ensures c.value_at-here.ensures c.is_met.ensures c.loop-i.invariant (search rules))
     ]
 
 pub returns : goal.returns
-returns c = search scanning_all
+returns c =
+    let r = c.into_inner.ensures in
+    let found : Answered c.args.c.now c.into_inner.result =
+    elim c.loop-i-test.branch [
+      | else-loop-i-test w ↦
+          answered _ _ _ (ended _ _ _ (ap items w.met-is) (few_found _ _ _ _ _ c.loop-i.invariant (search rules))) (search rules) r.variant r.ok r.err
+      | then-loop-i-test+then-is_met+then-is_full w ↦
+          answered _ _ _
+          (ended _ _ _ (ap items w.met-is)
+          (five_found _ _ _ _ _ c.loop-i.invariant _ _ _ w.loop-i-test.true w.point_at-low.ensures w.value_at-here.ensures w.is_met.ensures
+          (search rules) _ w.push.ensures.items (search rules)))
+          (search rules) r.variant r.ok r.err
+    ] in
+    record { whole = found.whole; five = found.five }

@@ -1,10 +1,7 @@
--- `row_file::all_pass` meets its contract: after i turns the first i numbers are tested. Assumes nothing.
-use Prim.Native.Nat.{◌-◌}
-use Rattle.row_file.proofs.Passing.{Passed}
+-- `row_file::all_pass` meets its contract: what has passed so far decides with what is left. Assumes nothing.
+use Rattle.float.proofs.Tested.{Tested}
+use Rattle.row_file.proofs.Passing.{passing}
 use Rattle.row_file.proofs.all_pass.Given as goal
 
-abbrev pub invariant-loop-i : goal.invariant-loop-i
-invariant-loop-i l = Passed l.file l.from l.i l.passed
-
-abbrev pub decreases-loop-i : goal.decreases-loop-i
-decreases-loop-i l = 2560 - l.i
+abbrev pub invariant-loop-bytes : goal.invariant-loop-bytes
+invariant-loop-bytes l = Tested passing l.numbers l.bytes-index l.passed

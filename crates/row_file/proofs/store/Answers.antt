@@ -1,40 +1,25 @@
 -- `row_file::store` meets its contract: after i turns the first i places hold the file's numbers. Assumes nothing.
-use borrow.Author.Rules.{rules}
-use mathlib.Core.Path.{◌≡◌, ◌∙◌}
-use mathlib.Core.List.{List}
-use Prim.Native.Nat.{ℕ, ◌+◌, ◌≤◌, ◌<◌, zero-le}
-use native.Mathlib.Omega.{arith}
-use lib.IntN.{ℤ}
-use lib.ListN.{length, set, length-set}
+use Rattle.std.proofs.Common.{rules, ◌≡◌, ◌∙◌, ℕ, ◌+◌, ◌<◌, ℤ, List, [], length}
+use lib.ListN.{get_or, set}
+use mir.Facts.{to_z-of_z}
 use mir.Syntax.{w16}
 use mir.Val.{SFits, to_z, of_z}
-use mir.Facts.{to_z-of_z}
-use Rattle.float.proofs.Table.{filled_none, filled_more, filled_all}
-use Rattle.row_file.specs.RowFile.{number_at, rows_from}
-use Rattle.row_file.proofs.store.Invariants.{Stored}
+use Rattle.float.proofs.Mapped.{filled_map}
+use Rattle.float.proofs.Table.{Filled, filled_none, filled_more}
+use Rattle.row_file.specs.inner.Numbers.{number_of}
 use Rattle.row_file.proofs.store.Goals as goal
 
-none : (file : List ℕ) (from : ℕ) {rows : List ℤ} → length rows ≡ 2560 → Stored file from 0 rows
-none file from {rows} h = record { bound = zero-le; long = h; filled = filled_none 2560 (number_at file from) rows h }
-
 -- a number more: what is stored of its sixteen bits is the number
-more : (file : List ℕ) (from i : ℕ) (rows : List ℤ) {n : ℤ} → i < 2560 → SFits w16 n → n ≡ number_at file from i →
-    Stored file from i rows → Stored file from (i + 1) (set rows i (to_z w16 (of_z w16 n)))
-more file from i rows {n} h f e r = record {
-  bound = omega arith;
-  long = length-set rows i _ ∙ r.long;
-  filled = filled_more 2560 (number_at file from) i rows _ h (to_z-of_z {w = w16} f ∙ e) r.filled;
-}
-
-all : (file : List ℕ) (from i : ℕ) {rows : List ℤ} → 2560 ≤ i → Stored file from i rows → rows ≡ rows_from file from
-unfolding rows_from
-all file from i {rows} h r = filled_all 2560 (number_at file from) i rows h r.filled
+more : (numbers : List (List ℕ)) (i : ℕ) (rows : List ℤ) {n : ℤ} → i < length numbers → SFits w16 n → n ≡ number_of (get_or numbers i []) →
+    Filled (length numbers) (λ k. number_of (get_or numbers k [])) i rows →
+    Filled (length numbers) (λ k. number_of (get_or numbers k [])) (i + 1) (set rows i (to_z w16 (of_z w16 n)))
+more numbers i rows h f e r = filled_more (length numbers) _ i rows _ h (to_z-of_z {w = w16} f ∙ e) r
 
 pub loop-i-init : goal.loop-i-init
-loop-i-init c = search (none, rules)
+loop-i-init c = filled_none _ _ _ (search rules)
 
 pub loop-i-preserved : goal.loop-i-preserved
-loop-i-preserved c = search (more, rules)
+loop-i-preserved c = more _ _ _ (search rules) (search rules) c.number.ensures c.loop-i.invariant
 
 pub returns : goal.returns
-returns c = search (all, rules)
+returns c = filled_map number_of _ _ _ _ _ (search rules) (search rules) c.loop-i.invariant

@@ -1,16 +1,14 @@
--- `trial_text::line_end` meets its contract: no byte before i ends the line. Assumes nothing.
-use borrow.Author.Rules.{rules}
-use Rattle.trial_text.proofs.First.{scanned_none, scanned_more, scanned_feed, scanned_end}
+-- `trial_text::line_end` meets its contract: no byte before the place that was found is a line feed. Assumes nothing.
+use Rattle.std.proofs.Common.{rules, tests, ◌∙◌}
+use Rattle.std.proofs.lemmas.Iterator.{YieldsList-from_slice}
+use Rattle.std.proofs.lemmas.Iterator.Search.{position_from_yields_List}
+use Rattle.std.proofs.lemmas.List.{take_rest}
+use Rattle.trial_text.proofs.First.{is_feed, ended_at}
 use Rattle.trial_text.proofs.line_end.Goals as goal
 
-pub loop-i-init : goal.loop-i-init
-loop-i-init c = search (scanned_none, rules)
-
-pub returns-then-text-i-eq10 : goal.returns-then-text-i-eq10
-returns-then-text-i-eq10 c = scanned_feed _ _ _ c.loop-i-test.true c.if-text-i-eq10.true c.loop-i.invariant
-
-pub loop-i-preserved : goal.loop-i-preserved
-loop-i-preserved c = search (scanned_more, rules)
-
 pub returns : goal.returns
-returns c = scanned_end _ _ _ c.loop-i-test.false c.loop-i.invariant
+returns c =
+    ended_at _ _ _ _ c.requires
+    (position_from_yields_List is_feed _ _ _ c.position-length.ensures.ran
+    (YieldsList-from_slice _ (c.iter.ensures.rest ∙ take_rest c.args.text.now c.args.at)) (λ x b q k. search (rules, tests)))
+    c.unwrap_or.ensures

@@ -1,22 +1,25 @@
--- `voice::weigh_frame` meets its contract: each part is its subframe, and each subframe follows the one before it. Assumes nothing.
-use mathlib.Core.Path.{◌≡◌, ◌∙◌}
-use mathlib.Core.List.{List}
-use lib.Ieee.{Float}
-use Rattle.weighting.specs.declared.Weighted.{Weighted}
-use Rattle.frame_parts.specs.declared.Filters.{Filters}
-use Rattle.frame_parts.specs.Parts.{subframe}
-use Rattle.voice.specs.declared.Speech.{Speech}
-use Rattle.voice.specs.Weighting.{weighed, next, weighting}
-use Rattle.voice.specs.inner.Voice.{gathered}
+-- `voice::weigh_frame` meets its contract: the subframes before s are done. Assumes nothing.
+use Rattle.std.proofs.Common.{refl, ap, arith, rules}
+use lib.ListN.{replicate}
+use lib.Ieee.{binary32, of_bits}
+use Rattle.weighting.specs.Filter.{Weighted}
+use Rattle.frame_parts.proofs.Told.{told}
+use Rattle.voice.proofs.Subframes.{part_is, start, turn, answered_as, first_status, all}
 use Rattle.voice.proofs.weigh_frame.Goals as goal
 
--- the stage, over what was answered to the four subframes
-by_subframes : (xs fs past : List Float) (w : Filters) (x : List Float) (s0 s1 s2 s3 : Weighted) (r : Speech) →
-    s0 ≡ weighed w.a0 (subframe x 0) xs fs → s1 ≡ next w.a1 (subframe x 1) s0 →
-    s2 ≡ next w.a2 (subframe x 2) s1 → s3 ≡ next w.a3 (subframe x 3) s2 →
-    r ≡ gathered past s0 s1 s2 s3 → r ≡ weighting xs fs past w x
-unfolding weighting
-by_subframes xs fs past w x s0 s1 s2 s3 r e0 e1 e2 e3 e = e ∙ rw (e3, e2, e1, e0)
+pub loop-s-init : goal.loop-s-init
+loop-s-init c = rw c.copy_from_slice.ensures.after (start _ _ _ _ _ (replicate 385 (of_bits binary32 0)) (search rules) refl)
+
+pub returns-in_err-y : goal.returns-in_err-y
+returns-in_err-y c =
+    let a = answered_as _ _ _ _ _ _ _ _ _ c.loop-s-test.true c.loop-s.invariant _ (part_is c.loop-s.s c.args.x.now) c.in_err-y.ensures in
+    told _ _ _ _ _ c.from_residual.ensures.1
+    (first_status _ _ _ _ _ _ _ c.loop-s-test.true c.loop-s.invariant.done (ap (λ (v : Weighted). v.status) a))
+
+pub loop-s-preserved : goal.loop-s-preserved
+loop-s-preserved c =
+    rw c.copy_from_slice-in-loop-s.ensures.after
+    (turn _ _ _ _ _ _ _ _ _ c.loop-s-test.true c.loop-s.invariant _ (part_is c.loop-s.s c.args.x.now) _ _ c.in_ok-y.ensures refl (search rules) (omega arith))
 
 pub returns : goal.returns
-returns c = search by_subframes
+returns c = all _ _ _ _ _ _ _ _ _ (omega arith) (omega arith) c.loop-s.invariant

@@ -1,13 +1,7 @@
--- `weighting::delayed` meets its contract: after i turns the first i samples stand behind the memory. Assumes nothing.
-use borrow.Author.Rules.{rules}
-use Rattle.weighting.proofs.Delay.{laid_none, laid_more, laid_all}
+-- `weighting::delayed` meets its contract: the samples stand behind the memory. Assumes nothing.
+use Rattle.std.proofs.Common.{rules}
+use Rattle.weighting.proofs.Delay.{laid}
 use Rattle.weighting.proofs.delayed.Goals as goal
 
-pub loop-i-init : goal.loop-i-init
-loop-i-init c = laid_none _ _ (search rules)
-
-pub loop-i-preserved : goal.loop-i-preserved
-loop-i-preserved c = search laid_more
-
 pub returns : goal.returns
-returns c = search laid_all
+returns c = rw c.copy_from_slice.ensures.after (laid _ _ _ (search rules) (search rules) c.start_delay-delay.ensures)

@@ -1,13 +1,8 @@
--- `spec_lsp::quantise::choose` meets its contract: the search starts where the band's rows do, and what it finds is one of its 256 rows. Assumes nothing.
-use borrow.Author.Rules.{rules}
-use mathlib.Core.Path.{◌≡◌, ◌∙◌}
-use mathlib.Core.List.{List}
-use Prim.Native.Nat.{ℕ}
+-- `spec_lsp::quantise::choose` meets its contract: the search starts where the band's rows do, and what it finds is one of its 256 rows.
+-- Assumes nothing.
+use Rattle.std.proofs.Common.{rules, ◌≡◌, ◌∙◌, ℕ, List, ℤ, Fits, w8}
 use lib.Dec.{lit<}
-use lib.IntN.{ℤ}
 use lib.Ieee.{Float}
-use mir.Syntax.{w8}
-use mir.Val.{Fits}
 use Rattle.spec_tables.specs.declared.BandPlace.{BandPlace}
 use Rattle.spec_tables.specs.declared.LspBand.{LspBand}
 use Rattle.spec_tables.specs.Band.{place_of, first_row}

@@ -5,4 +5,4 @@ use Rattle.worked_cases.proofs.cosines.step_of_angle_is.Goals as goal
 
 pub step_of_angle-requires : goal.step_of_angle-requires
 unfolding of_bits
-step_of_angle-requires c = sym c.exceeds_bound.ensures ∙ c.if-exceeds_bound.false
+step_of_angle-requires c = sym c.exceeds_bound.ensures ∙ c.if-not-exceeds_bound.true

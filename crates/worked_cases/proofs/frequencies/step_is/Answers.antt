@@ -5,4 +5,4 @@ use Rattle.worked_cases.proofs.frequencies.step_is.Goals as goal
 
 pub step_of_frequency-requires : goal.step_of_frequency-requires
 unfolding of_bits
-step_of_frequency-requires c = sym c.exceeds_bound.ensures ∙ c.if-exceeds_bound.false
+step_of_frequency-requires c = sym c.exceeds_bound.ensures ∙ c.if-not-exceeds_bound.true

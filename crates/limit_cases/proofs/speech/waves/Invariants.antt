@@ -1,9 +1,0 @@
--- `limit_cases::speech::waves` is safe and ends: every place written is one of the 145. Assumes nothing.
-use Rattle.std.proofs.Common.{◌-◌, ◌≤◌}
-use Rattle.limit_cases.proofs.speech.waves.Given as goal
-
-abbrev pub invariant-loop-k : goal.invariant-loop-k
-invariant-loop-k l = l.k ≤ 145
-
-abbrev pub decreases-loop-k : goal.decreases-loop-k
-decreases-loop-k l = 145 - l.k

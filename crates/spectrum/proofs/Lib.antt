@@ -1,0 +1,3 @@
+-- Laws behind the functions' proofs.
+mod Lines
+mod Given

@@ -1,0 +1,2 @@
+-- What a tally counts.
+pub mod Counted

@@ -1,0 +1,3 @@
+-- Laws behind the functions' proofs.
+mod Taps
+mod Subframes

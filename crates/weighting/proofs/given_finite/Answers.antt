@@ -1,6 +1,0 @@
--- `weighting::given_finite` meets its contract: the tests joined are that no list fails. Assumes nothing.
-use Rattle.float.proofs.Refusal.{joined}
-use Rattle.weighting.proofs.given_finite.Goals as goal
-
-pub returns : goal.returns
-returns c = search joined depth 9
