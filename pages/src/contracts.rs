@@ -4,7 +4,7 @@ use crate::args::fail;
 use crate::rattle::{
     after, functions, imports, short, Equation, Function, Scope, Term, Way, RESULT, RESULT_IN_CLAUSES,
 };
-use crate::{quoted, read};
+use crate::{antt, quoted, read};
 use std::collections::{BTreeMap, BTreeSet};
 use std::fs;
 use std::path::{Path, PathBuf};
@@ -18,6 +18,9 @@ pub const PAGE: &str = "docs/TRUST.md";
 const DOORS: &str = "crates/c_api";
 /// What `x ≡ y` says, by its file.
 const EQUALITY: (&str, &str) = ("◌≡◌", "Rattle.std.specs.Prelude#◌≡◌");
+/// Where the views of answers are proved to forget nothing, and by what claim.
+const WHOLE: &str = "crates/answers/proofs/Whole.antt";
+const CLAIM: &str = "crates/answers/specs/Claim.antt#Whole";
 const LENT: &str = "crates/c_api/specs/Lent.antt#lent";
 /// What a door may make of a part that C has in another form.
 const FORMS: [&str; 3] = [
@@ -47,6 +50,11 @@ pub fn sources(top: &Path) -> BTreeMap<String, String> {
     all
 }
 
+/// The theorems about the views of answers.
+pub fn views(top: &Path) -> String {
+    read(&top.join(WHOLE))
+}
+
 /// The table of doors that doors/make prints from the header.
 pub fn described(top: &Path) -> String {
     match Command::new(top.join("doors/make")).arg("rust-table").output() {
@@ -63,9 +71,14 @@ pub struct Said {
     pub faults: Vec<String>,
 }
 
-/// Holds each operation to the page, and each door of the table to its operation.
-pub fn check(page: &str, table: &str, texts: &BTreeMap<String, String>) -> Said {
+/// Holds each operation to the page, and each door of the table to its operation. An answer may be seen by a view that the theorems of
+/// `views` prove to forget nothing.
+pub fn check(page: &str, table: &str, texts: &BTreeMap<String, String>, views: &str) -> Said {
     let (mut faults, mut operations, mut sources) = (Vec::new(), BTreeMap::new(), Vec::new());
+    let views = shown_whole(views).unwrap_or_else(|what| {
+        faults.push(format!("{WHOLE}: {what}"));
+        BTreeMap::new()
+    });
     // nobody calls a program's functions, whatever their names
     let programs: Vec<&str> = texts.keys().filter_map(|path| path.strip_suffix("main.rt")).collect();
     for (path, text) in texts.iter().filter(|(path, _)| !programs.iter().any(|one| path.starts_with(one))) {
@@ -76,7 +89,7 @@ pub fn check(page: &str, table: &str, texts: &BTreeMap<String, String>) -> Said 
     }
     let (rows, doors) = (rows(page), doors(table));
     for row in &rows {
-        match operation(row, &sources) {
+        match operation(row, &sources, &views) {
             Ok(found) if operations.contains_key(row.name) => {
                 faults.push(format!("{PAGE}: {} has two rows ({})", row.name, found.function.name))
             }
@@ -249,18 +262,50 @@ fn ensured(function: &Function, scope: &Scope) -> Result<Vec<Equation>, String> 
     Ok(all)
 }
 
-/// Whether the left side of an equation is the answer: `result`, or what a definition of specs/ makes of it beside parameters, as
-/// `as_lines result` and `as_frame coder result`, where the code answers a `Result` and the definition a status with values.
-fn is_answer(left: &[Term], function: &Function) -> bool {
+/// How a view shows an answer: beside how many parameters, and whether only an answer without a value.
+#[derive(Clone, Copy)]
+struct View {
+    beside: usize,
+    valueless: bool,
+}
+
+/// The views that theorems show to forget nothing, `Whole VIEW` or `(a : A) → Whole (VIEW a)`, by what their names stand for.
+fn shown_whole(text: &str) -> Result<BTreeMap<String, View>, String> {
+    let file = antt::file(text)?;
+    let stands = |name: &str| file.meaning(name).unwrap_or_default();
+    let mut all = BTreeMap::new();
+    let theorems = file.declarations.iter().filter(|one| one.kind == antt::Kind::Theorem && one.given.is_empty());
+    for one in theorems {
+        let statement = one.statement.trim_start_matches([':', ' ']);
+        let (bound, claimed) = statement.rsplit_once('→').unwrap_or(("", statement));
+        let words: Vec<&str> = antt::names(claimed).collect();
+        let [claim, view, beside @ ..] = &words[..] else { continue };
+        if stands(claim) != CLAIM {
+            continue;
+        }
+        let valueless = *beside == ["A", "=", "⊤"];
+        let beside = if valueless { &[] } else { beside };
+        // of any parameters, and with no condition
+        let given: Vec<&str> = antt::names(bound).take_while(|word| *word != ":").collect();
+        if given == beside && !bound.contains('→') && bound.matches(':').count() == beside.len().min(1) {
+            all.insert(stands(view), View { beside: beside.len(), valueless });
+        }
+    }
+    Ok(all)
+}
+
+/// Whether the left side of an equation is the answer: `result`, or what a view makes of it beside parameters, as `as_lines result` and
+/// `as_frame coder result`, where the code answers a `Result` and the definition a status with values. A view that forgot something
+/// would say less than `result` does, so that it must be shown whole.
+fn is_answer(left: &[Term], function: &Function, views: &BTreeMap<String, View>) -> bool {
     let given = |term: &Term| function.parameters.iter().any(|parameter| term.is(&parameter.name));
     match left {
         [result] => result.is(RESULT),
         [Term::Word(view), beside @ .., result] => {
-            result.is(RESULT)
-                && view.starts_with("crates/")
-                && view.contains('#')
-                && to_be_read(view)
-                && beside.iter().all(given)
+            let whole = views.get(view).is_some_and(|one| {
+                one.beside == beside.len() && (!one.valueless || function.result.starts_with("Result<(), "))
+            });
+            result.is(RESULT) && whole && to_be_read(view) && beside.iter().all(given)
         }
         _ => false,
     }
@@ -272,7 +317,11 @@ fn front(parameter: &str) -> Vec<Term> {
 }
 
 /// Holds an operation to its row.
-fn operation<'a>(row: &Row, sources: &'a [Source]) -> Result<Operation<'a>, String> {
+fn operation<'a>(
+    row: &Row,
+    sources: &'a [Source],
+    views: &BTreeMap<String, View>,
+) -> Result<Operation<'a>, String> {
     let (function, scope) = public(row.name, sources, Stand::Operation)?;
     let ensured = ensured(function, &scope)?;
     let mut wanted = Vec::new();
@@ -280,7 +329,7 @@ fn operation<'a>(row: &Row, sources: &'a [Source]) -> Result<Operation<'a>, Stri
         wanted.push(scope.equation(text).map_err(|what| format!("{PAGE}: {what}"))?);
     }
     // the page itself may not leave out the answer or a lent parameter, nor speak of something else
-    let answer = wanted.iter().find(|one| is_answer(&one.left, function));
+    let answer = wanted.iter().find(|one| is_answer(&one.left, function, views));
     let mut sides = vec![answer.map_or(vec![Term::word(RESULT)], |one| one.left.clone())];
     let lent = function.parameters.iter().filter(|parameter| parameter.way == Way::Lent);
     sides.extend(lent.map(|parameter| {

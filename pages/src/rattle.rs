@@ -10,6 +10,8 @@ pub struct Function {
     /// Whether it leaves types open, with a bound on them or none.
     pub generic: bool,
     pub parameters: Vec<Parameter>,
+    /// The type after the arrow; empty where there is none.
+    pub result: String,
     pub clauses: Vec<Clause>,
 }
 
@@ -83,6 +85,7 @@ fn function(text: &str) -> Result<Function, String> {
     let parameters = parts(&text[open + 1..close], ',').iter().map(|part| parameter(part)).collect::<Result<_, _>>();
     generic |= text[open..close].split(|c: char| !c.is_alphanumeric()).any(|word| word == "impl" || word == "dyn");
     let (mut rest, mut clauses) = (&text[close + 1..], Vec::new());
+    let mut result = String::new();
     loop {
         let brace = head_end(rest).ok_or_else(|| wrong("it has no body".into()))?;
         let head = &rest[..brace];
@@ -95,6 +98,9 @@ fn function(text: &str) -> Result<Function, String> {
             }
             None => before,
         };
+        if let Some(kind) = before.trim().strip_prefix("->").filter(|_| clauses.is_empty()) {
+            result = kind.trim().to_string();
+        }
         if word.is_empty() {
             if !is_result(before, clauses.is_empty()) {
                 return Err(wrong(format!("`{}` is not understood", head.trim())));
@@ -108,7 +114,7 @@ fn function(text: &str) -> Result<Function, String> {
         clauses.push(Clause { word: word.to_string(), text: rest[brace + 1..end].trim().to_string() });
         rest = &rest[end + 1..];
     }
-    Ok(Function { parameters: parameters.map_err(wrong)?, name, public: false, exported: false, generic, clauses })
+    Ok(Function { parameters: parameters.map_err(wrong)?, name, public: false, exported: false, generic, result, clauses })
 }
 
 /// A parameter, `name: type`.

@@ -69,17 +69,17 @@ fn windows_of(x: &[f32; 360]) -> Result<[[f32; 11]; 4], Refusal>
     ])
 }
 
-// One frame over rows that the caller lends: 60 samples before it, its 240, 60 after it. On a refusal the coder is as it was.
-#[tactic(auto, using(float::proofs::Refusal::exits, crate::proofs::Halves::stages), unfolding(crate::specs::Frame::code_frame))]
-pub fn code_in(
+// A frame of 360 samples. Out of line, so that a frame of another length is refused before the room for all stages is made.
+#[inline(never)]
+#[tactic(auto, using(crate::proofs::Halves::stages), unfolding(crate::specs::Frame::code_frame))]
+fn coded(
     rows: &[i16; 2560],
     coder: Coder,
-    samples: &[i16],
+    samples: &[i16; 360],
     spacing_hz: f32,
 ) -> Result<Frame, Refusal>
     ensures { as_frame coder result ≡ code_frame rows.now coder samples.now spacing_hz }
 {
-    let samples = samples.as_array().ok_or(Refusal::FrameLength)?;
     let x = frame_parts::to_singles(samples);
     let windows = windows_of(&x)?;
     let quantised = spectrum::lines_in(rows, windows[3], coder.set);
@@ -110,6 +110,20 @@ pub fn code_in(
         a,
         coder,
     })
+}
+
+// One frame over rows that the caller lends: 60 samples before it, its 240, 60 after it. On a refusal the coder is as it was.
+#[tactic(auto, using(float::proofs::Refusal::exits), unfolding(crate::specs::Frame::code_frame))]
+pub fn code_in(
+    rows: &[i16; 2560],
+    coder: Coder,
+    samples: &[i16],
+    spacing_hz: f32,
+) -> Result<Frame, Refusal>
+    ensures { as_frame coder result ≡ code_frame rows.now coder samples.now spacing_hz }
+{
+    let samples = samples.as_array().ok_or(Refusal::FrameLength)?;
+    coded(rows, coder, samples, spacing_hz)
 }
 
 // The same over the built-in rows.

@@ -1,5 +1,7 @@
 // One function for each operation: whether the library gives a record's answer. A record is the operation's number, what is
-// given, the status and the results; a refusal's results are zeros, and memories as they were.
+// given, the status and the results; a refusal's results are zeros, and memories as they were. The library's refusal is an `Err`,
+// which holds neither: its number is compared, and the rest is held to zeros and to the memories that the record gives. The
+// memory that `run_combined_lent` is lent is there after a refusal too, and is compared.
 // The numbers are the list's own: an enum would be a third table of the same twenty.
 ghost use Rattle.std.specs.Prelude.{◌≤◌};
 
@@ -252,6 +254,13 @@ fn memory_is(words: &mut Words, mem: &CombinedMem) -> Option<()> {
     words.are(&mem.p_hist)
 }
 
+// The four memories after a call, which never alters the limit.
+fn after_is(words: &mut Words, mem: &CombinedMem, limit: u32) -> Option<()> {
+    memory_is(words, mem)?;
+    (mem.limit == limit).then_some(())
+}
+
+// The lent memory is looked at after the call, done or refused; then the form by value, which holds none once it is refused.
 fn run_combined(words: &mut Words) -> Option<()> {
     let mem = given_memory(words)?;
     let input = words.singles()?;
@@ -260,19 +269,27 @@ fn run_combined(words: &mut Words) -> Option<()> {
     let wp = words.singles()?;
     let lag = words.word()?;
     let beta = words.single()?;
-    match combined_lent::run_combined_lending(mem, input, aq, wz, wp, lag, beta) {
-        Ok(answer) => {
+    let mut again = *words;
+    let mut held = mem;
+    match combined_lent::run_combined_lent(&mut held, input, aq, wz, wp, lag, beta) {
+        Ok(out) => {
             words.is(0)?;
-            memory_is(words, &answer.mem)?;
-            words.are(&answer.out)?;
-            // no call alters the limit
-            (answer.mem.limit == mem.limit).then_some(())
+            after_is(words, &held, mem.limit)?;
+            words.are(&out)?;
         }
         Err(refusal) => {
             words.is(refusal.number())?;
-            memory_is(words, &mem)?;
-            words.zeros()
+            after_is(words, &held, mem.limit)?;
+            words.zeros()?;
         }
+    }
+    match combined_lent::run_combined_lending(mem, input, aq, wz, wp, lag, beta) {
+        Ok(answer) => {
+            again.is(0)?;
+            after_is(&mut again, &answer.mem, mem.limit)?;
+            again.are(&answer.out)
+        }
+        Err(refusal) => again.is(refusal.number()),
     }
 }
 

@@ -7,7 +7,7 @@ use float::status::Refusal;
 // How many samples fit in what an operation is given.
 const ROOM: usize = 510;
 
-#[derive(Drop)]
+#[derive(Clone, Copy)]
 pub struct Words<'a> {
     left: &'a [u32],
 }

@@ -41,7 +41,9 @@ fn given_of(a: [f32; 11], set: [f32; 10]) -> Result<[f32; 10], Refusal>
     }
 }
 
-// The index of a filter's lines after the decoded set, and the set that the decoder makes of it, over rows that the caller lends.
+// The index of a filter's lines after the decoded set, and the set that the decoder makes of it, over rows that the caller lends. Out of line,
+// here and in `spectrum_of`, so that a frame gives back the room of one half before it takes the next one's.
+#[inline(never)]
 #[tactic(auto, using(float::proofs::Refusal::exits, crate::proofs::Lines::parts), unfolding(crate::specs::Lines::lines))]
 pub fn lines_in(rows: &[i16; 2560], a: [f32; 11], set: [f32; 10]) -> Result<Quantised, Refusal>
     ensures { as_quantised result ≡ lines rows.now a set }
@@ -95,6 +97,7 @@ fn join(filters: &[[f32; 11]; 4]) -> [f32; 44]
 // ---- the half
 
 // The spectrum of a frame, from what its lines answered and after the last frame's cosines: stability and filters. Refused lines refuse it.
+#[inline(never)]
 #[tactic(auto, using(frame_parts::proofs::Told::tells, crate::proofs::Lines::parts), unfolding(crate::specs::inner::Spectrum::spectrum))]
 pub fn spectrum_of(
     l: Result<Quantised, Refusal>,

@@ -86,6 +86,8 @@ pub fn report(text: &[u8], out: &mut [u8; ROOM]) -> usize
     ensures out_after { take result out.new ≡ losses text.now }
     ensures value { result ≡ length (losses text.now) }
 {
+    // zeros first: behind what is printed stands nothing that stood there
+    *out = [0; ROOM];
     let mut printed = Printed { out, end: 0 };
     print(text, &mut printed);
     printed.end

@@ -207,13 +207,14 @@ fn used() -> Coder {
     }
 }
 
-// Before any stage, and after all of them.
+// Before any stage, and after all of them. An `Err` has no frame and no coder, and a coder goes by value: that the memories are
+// as they were is said by the types, and the doors, which lend them, are held to it in `door_play`.
 pub fn refusal_keeps() -> bool {
     refuses(used(), &[0; 359], SPACING, Refusal::FrameLength)
         && refuses(used(), &[0; 360], 401.0, Refusal::OutOfRange)
 }
 
-// Too few rows, and too few samples, which nobody looks at then.
+// Too few rows, and too few samples, which nobody looks at then. The memories, as above, are the types' to keep.
 pub fn refused_over(rows: &[i16]) -> bool {
     own_rows::code_frame_in(rows, used(), &[0; 359], SPACING).err() == Some(Refusal::Length)
 }

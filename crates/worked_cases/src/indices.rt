@@ -7,6 +7,7 @@ pub fn splits(word: u32, bands: [u8; 3]) -> bool {
     lsp_index::split_lsp_index(word) == Ok(bands)
 }
 
+// The zeros of a refusal's line, here and below, are the definition's: an `Err` has neither rows nor a set.
 pub fn split_refused(word: u32) -> bool {
     lsp_index::split_lsp_index(word) == Err(Refusal::LongIndex)
 }

@@ -179,7 +179,8 @@ fn with_a_nan() -> [f32; 10] {
     set
 }
 
-// With 2,559 numbers nothing else is looked at: not a set with a NaN, not a longer word, not 359 samples.
+// With 2,559 numbers nothing else is looked at: not a set with a NaN, not a longer word, not 359 samples. The line's zeros are
+// the definition's: an `Err` has neither an index nor a set.
 pub fn length_first() -> bool {
     let rows = [1; 2559];
     let unfit = with_a_nan();

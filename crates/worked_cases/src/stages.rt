@@ -9,6 +9,7 @@ pub fn equal_weights() -> bool {
     spec_lsp::quantise::lsp_weights([5000.0; 10]) == [1.0; 10]
 }
 
+// The line's zeros are the definition's: an `Err` has no coefficients.
 pub fn short_window() -> bool {
     lpc::lpc_analysis(&[0.0; 179]).err() == Some(Refusal::Length)
 }

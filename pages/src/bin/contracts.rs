@@ -1,7 +1,7 @@
 //! Holds the contract of every operation and every door to docs/TRUST.md.
 
 use pages::args::{fail, top, Args};
-use pages::contracts::{check, described, sources, PAGE};
+use pages::contracts::{check, described, sources, views, PAGE};
 use pages::read;
 
 const HELP: &str = "\
@@ -12,7 +12,8 @@ contracts: check that every operation and every door promises what docs/TRUST.md
 The tables of docs/TRUST.md with the columns `operation` (or `form`), `definition` and `contract` are the list. For each row there
 must be one public function of that name in crates/*/src, with no type left open. Its clauses must be `ensures` alone, and state exactly the
 equations of the row: one for the answer and one for each parameter lent with &mut, the definition's name in each, and that
-name imported from the definition's file. The page writes x where the source has `x.now` or `x.old`.
+name imported from the definition's file. The page writes x where the source has `x.now` or `x.old`. Where the code answers a `Result`,
+the answer may be seen by a definition, as `as_lines result`, of which crates/answers/proofs/Whole.antt proves that it forgets nothing.
 
 Every door of include/g7231.h must have a row. Its exported function, in the src of one of crates/c_api*_c, must state, in
 `ensures` alone,
@@ -30,7 +31,7 @@ fn main() {
     Args::new(HELP).end();
     let top = top();
     let sources = sources(&top);
-    let said = check(&read(&top.join(PAGE)), &described(&top), &sources);
+    let said = check(&read(&top.join(PAGE)), &described(&top), &sources, &views(&top));
     for fault in &said.faults {
         println!("{fault}");
     }

@@ -158,6 +158,27 @@ const TABLE: &str = r#"
     },
 "#;
 
+const VIEWS: &str = "
+use Rattle.half.specs.Half.{as_halved, as_kept, as_bare, as_held}
+use Rattle.answers.specs.Claim.{Whole}
+use Rattle.half.proofs.Half.{as_proved}
+
+pub halved_whole : Whole as_halved
+halved_whole = refl
+
+pub kept_whole : (mem : Mem) → Whole (as_kept mem)
+kept_whole mem = refl
+
+pub bare_whole : Whole (as_bare {A = ⊤})
+bare_whole = refl
+
+pub held_whole : Held → Whole as_held
+held_whole h = refl
+
+pub proved_whole : Whole as_proved
+proved_whole = refl
+";
+
 const HALF: &str = "crates/half/src/lib.rt";
 const C_API: &str = "crates/c_api/src/lib.rt";
 const C_API_C: &str = "crates/c_api_c/src/lib.rt";
@@ -168,7 +189,7 @@ fn faults(page: &str, table: &str, operations: &str, library: &str, exports: &st
 
 fn faults_in(page: &str, table: &str, texts: &[(&str, &str)]) -> Vec<String> {
     let texts = texts.iter().map(|(path, text)| (path.to_string(), text.to_string()));
-    check(page, table, &texts.collect()).faults
+    check(page, table, &texts.collect(), VIEWS).faults
 }
 
 /// Alters one place of one of the texts, and looks for words in what is then said. A fault of an export is looked for in the library of doors
@@ -250,19 +271,45 @@ fn seen(view: &str, import: &str) -> Vec<String> {
 
 #[test]
 fn an_answer_that_is_a_result() {
-    let import = "ghost use Rattle.half.specs.Half.{as_halved};";
+    let import = "ghost use Rattle.half.specs.Half.{as_halved, as_kept, as_bare, as_held, blind};";
     assert_eq!(seen("as_halved result", import), [""; 0]);
-    assert_eq!(seen("as_halved mem result", import), [""; 0]);
+    assert_eq!(seen("as_kept mem result", import), [""; 0]);
     let refused = |said: Vec<String>| {
         let wanted = "no equation for the result";
         assert!(said.iter().any(|fault| fault.contains(wanted)), "{said:?}");
     };
+    // by a view that nobody has shown to forget nothing, of any answer and with no condition
+    refused(seen("blind result", import));
+    refused(seen("blind mem result", import));
+    refused(seen("as_held result", import));
+    // by one that shows a status alone, of an answer with a value
+    refused(seen("as_bare result", import));
     // by a name that no reader has read, by what is no name of specs/, and of something that is not given
-    refused(seen("as_halved result", "ghost use Rattle.half.proofs.Half.{as_halved};"));
+    refused(seen("as_proved result", "ghost use Rattle.half.proofs.Half.{as_proved};"));
     refused(seen("as_halved result", "ghost use Rattle.half.specs.inner.Half.{as_halved};"));
     refused(seen("mem result", import));
-    refused(seen("as_halved 0 result", import));
+    refused(seen("as_kept 0 result", import));
+    refused(seen("as_halved mem result", import));
+    refused(seen("as_kept result", import));
     refused(seen("as_halved result mem", import));
+}
+
+#[test]
+fn an_answer_without_a_value() {
+    let import = "ghost use Rattle.half.specs.Half.{as_bare};";
+    let is = "`result ≡ (filled way out).status`, `out.new ≡ (filled way out).out`";
+    let seen = "`as_bare result ≡ (filled way out).status`, `out.new ≡ (filled way out).out`";
+    let page = altering(SAMPLE, is, seen)(SAMPLE);
+    let told = |kind: &str| {
+        let operations = altering(OPERATIONS, "fill(way: u32, out: &mut [f32]) -> u32", &format!("fill(way: u32, out: &mut [f32]) -> {kind}"))(OPERATIONS);
+        let clause = "ensures status { result ≡ (filled way out.old).status }";
+        let operations = altering(&operations, clause, "ensures status { as_bare result ≡ (filled way out.old).status }")(&operations);
+        faults(&page, TABLE, &format!("{import}\n{operations}"), &library(), EXPORTS)
+    };
+    assert_eq!(told("Result<(), Refusal>"), [""; 0]);
+    for kind in ["Result<u32, Refusal>", "u32"] {
+        assert!(told(kind).iter().any(|fault| fault.contains("no equation for the result")), "{kind}");
+    }
 }
 
 #[test]
@@ -426,9 +473,9 @@ fn what_the_page_or_the_header_leaves_out() {
 #[test]
 fn the_repository() {
     let top = top();
-    let (page, table, texts) = (read(&top.join(PAGE)), described(&top), sources(&top));
+    let (page, table, texts, views) = (read(&top.join(PAGE)), described(&top), sources(&top), views(&top));
     // a fault that is there already is for the program to tell
-    let faults = check(&page, &table, &texts).faults;
+    let faults = check(&page, &table, &texts, &views).faults;
     let named: Vec<&str> = rows(&page).iter().map(|row| row.name).collect();
     let mut left_out = 0;
     for (path, text) in &texts {
@@ -440,7 +487,7 @@ fn the_repository() {
             if listed && !told && line.trim_start().starts_with("ensures") {
                 let mut altered = texts.clone();
                 altered.insert(path.clone(), text.replace(&format!("{line}\n"), ""));
-                assert_ne!(check(&page, &table, &altered).faults, faults, "{path}: {line}");
+                assert_ne!(check(&page, &table, &altered, &views).faults, faults, "{path}: {line}");
                 left_out += 1;
             }
         }

@@ -1,7 +1,7 @@
--- `frame::code_in` meets its contract: the last of the stages refuses, or none does. Assumes nothing.
+-- `frame::coded` meets its contract: the last of the stages refuses, or none does. Assumes nothing.
 use Rattle.std.proofs.Common.{rules}
 use Rattle.frame.proofs.Halves.{voice_refuses, finishes, framed}
-use Rattle.frame.proofs.code_in.Goals as goal
+use Rattle.frame.proofs.coded.Goals as goal
 
 pub returns-in_err-pitch : goal.returns-in_err-pitch
 returns-in_err-pitch c =
