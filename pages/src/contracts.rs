@@ -317,11 +317,7 @@ fn front(parameter: &str) -> Vec<Term> {
 }
 
 /// Holds an operation to its row.
-fn operation<'a>(
-    row: &Row,
-    sources: &'a [Source],
-    views: &BTreeMap<String, View>,
-) -> Result<Operation<'a>, String> {
+fn operation<'a>(row: &Row, sources: &'a [Source], views: &BTreeMap<String, View>) -> Result<Operation<'a>, String> {
     let (function, scope) = public(row.name, sources, Stand::Operation)?;
     let ensured = ensured(function, &scope)?;
     let mut wanted = Vec::new();

@@ -114,7 +114,15 @@ fn function(text: &str) -> Result<Function, String> {
         clauses.push(Clause { word: word.to_string(), text: rest[brace + 1..end].trim().to_string() });
         rest = &rest[end + 1..];
     }
-    Ok(Function { parameters: parameters.map_err(wrong)?, name, public: false, exported: false, generic, result, clauses })
+    Ok(Function {
+        parameters: parameters.map_err(wrong)?,
+        name,
+        public: false,
+        exported: false,
+        generic,
+        result,
+        clauses,
+    })
 }
 
 /// A parameter, `name: type`.

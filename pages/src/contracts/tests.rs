@@ -262,7 +262,9 @@ fn a_program_has_no_operations() {
 
 /// The sample where `halve` answers a `Result`, by a view of its answer, and what is said of it.
 fn seen(view: &str, import: &str) -> Vec<String> {
-    let page = altering(SAMPLE, "`result ≡ halved (pair a way) mem`", &format!("`{view} ≡ halved (pair a way) mem`"))(SAMPLE);
+    let page = altering(SAMPLE, "`result ≡ halved (pair a way) mem`", &format!("`{view} ≡ halved (pair a way) mem`"))(
+        SAMPLE,
+    );
     let clause = format!("ensures {{ {view} ≡ halved (pair a.now way) mem }}");
     let is = "ensures { result ≡ halved (pair a.now way) mem }";
     let operations = altering(OPERATIONS, is, &clause)(OPERATIONS);
@@ -301,9 +303,16 @@ fn an_answer_without_a_value() {
     let seen = "`as_bare result ≡ (filled way out).status`, `out.new ≡ (filled way out).out`";
     let page = altering(SAMPLE, is, seen)(SAMPLE);
     let told = |kind: &str| {
-        let operations = altering(OPERATIONS, "fill(way: u32, out: &mut [f32]) -> u32", &format!("fill(way: u32, out: &mut [f32]) -> {kind}"))(OPERATIONS);
+        let operations = altering(
+            OPERATIONS,
+            "fill(way: u32, out: &mut [f32]) -> u32",
+            &format!("fill(way: u32, out: &mut [f32]) -> {kind}"),
+        )(OPERATIONS);
         let clause = "ensures status { result ≡ (filled way out.old).status }";
-        let operations = altering(&operations, clause, "ensures status { as_bare result ≡ (filled way out.old).status }")(&operations);
+        let operations =
+            altering(&operations, clause, "ensures status { as_bare result ≡ (filled way out.old).status }")(
+                &operations,
+            );
         faults(&page, TABLE, &format!("{import}\n{operations}"), &library(), EXPORTS)
     };
     assert_eq!(told("Result<(), Refusal>"), [""; 0]);
